@@ -1,0 +1,60 @@
+-- Assumes nothing.
+use borrow.Author.Needs.{needs}
+use borrow.Author.Tests.{not-true, not-false}
+use Rattle.device.specs.Step.{stepOf}
+use mathlib.Core.Bool.{_&&_}
+use Rattle.device.proofs.step.Statement.{statement}
+use Rattle.device.proofs.step.Tie as tie
+
+variant-requires : tie.Need-variant-requires
+variant-requires c κs = search needs
+
+ranged-requires : tie.Need-ranged-requires
+ranged-requires c κs = search needs
+
+refused-requires : tie.Need-refused-requires
+refused-requires c κs = search needs
+
+returns : tie.Need-returns
+unfolding stepOf
+returns c = rw (c .refused .ensures, ← c .before .before .ranged .ensures, ← c .before .before .before .variant .ensures, not-true (c .before .before .before .variant .result && c .before .before .ranged .result) (c .before .if1 .taken))
+
+operands-requires : tie.Need-operands-requires
+operands-requires c κs = search needs
+
+refused-requires-2 : tie.Need-refused-requires-2
+refused-requires-2 c κs = search needs
+
+returns-2 : tie.Need-returns-2
+unfolding stepOf
+returns-2 c =
+    let a = c .before .before .before in
+    rw (c .refused2 .ensures, ← a .before .ranged .ensures, ← a .before .before .variant .ensures, not-false (a .before .before .variant .result && a .before .ranged .result) (a .if1 .left), ← c .before .before .operands .ensures, not-true (c .before .before .operands .result) (c .before .if2 .taken))
+
+effect-requires : tie.Need-effect-requires
+effect-requires c κs = search needs
+
+answer-requires : tie.Need-answer-requires
+answer-requires c κs = search needs
+
+returns-3 : tie.Need-returns-3
+unfolding stepOf
+returns-3 c =
+    let a = c .before .before .before in
+    let b = a .before .before in
+    rw (c .answer .ensures, c .before .before .effect .ensures, ← b .before .ranged .ensures, ← b .before .before .variant .ensures, not-false (b .before .before .variant .result && b .before .ranged .result) (b .if1 .left), ← a .before .operands .ensures, not-false (a .before .operands .result) (a .if2 .left))
+
+pub step-spec : {M : Type 1} → statement M
+step-spec =
+    tie.close
+    (tie.spec
+    variant-requires
+    ranged-requires
+    refused-requires
+    returns
+    operands-requires
+    refused-requires-2
+    returns-2
+    effect-requires
+    answer-requires
+    returns-3)

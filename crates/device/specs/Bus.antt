@@ -1,0 +1,183 @@
+-- The bus, conversions and power-on, by rulings P2, P5, P6 and P9 to P12: what each event asks of a device, and what the device
+-- then does. Settings are named by the numbers at which their registers are read.
+-- Assumes nothing.
+use Prim.Native.Nat.{ℕ, _+_, _*_}
+use mathlib.Core.Bool.{Bool, true, false, not, _||_, _&&_, cond}
+use mathlib.Core.List.{List}
+use lib.IntN.{ℤ, pos}
+use lib.Dec.{eqb}
+use lib.Bits.{bitAnd, bitOr}
+use lib.ListN.{getD, set}
+use Rattle.temperature.specs.Temperature.{eighthsOf, highByteOf, lowByteOf, openReading}
+use Rattle.registers.specs.Bits.{has, alerting, alertMask, standby}
+use Rattle.registers.specs.Page.{readableOf, knownOf, oneShot, writePositionOf, readPositionOf, onPosition, settingOf, changedOf, keptOf, powerOnOf, readOnlyOf, addressOf}
+use Rattle.conversion.specs.declared.Sensed.{Sensed}
+use Rattle.conversion.specs.Conversion.{readingOf, sensedOf}
+use Rattle.device.specs.declared.Device.{Device}
+use Rattle.device.specs.declared.Outcome.{Outcome}
+use Rattle.device.specs.declared.Event.{Event}
+use Rattle.device.specs.declared.Event.the-variants.{Write, Read, Send, Receive, Convert, Open, PowerOn}
+use Rattle.device.specs.declared.Asked.{Asked}
+use Rattle.device.specs.declared.Asked.the-variants.{Put, Get, Point, Respond, Sense, Restart, Nothing}
+use Rattle.device.specs.Pins.{configurationOf, comparatorOf, alertOf}
+
+-- ---- what an outcome is
+
+-- nothing acknowledged, taken or changed
+abbrev pub silentOf : Device → Outcome
+silentOf d = record { device = d; acknowledged = false; taken = false; byte = 0 }
+
+-- acknowledged, with the byte read or 0
+abbrev pub answeredOf : Device → ℕ → Outcome
+answeredOf d byte = record { device = d; acknowledged = true; taken = false; byte = byte }
+
+-- ---- how a device changes
+
+-- pointer, pending one-shot and settings changed, the rest as it was
+abbrev pub setUpOf : Device → ℕ → Bool → List ℕ → Device
+setUpOf d pointer pending settings =
+    record { variant = d .variant; pointer = pointer; pending = pending; status = d .status; sensed = d .sensed; settings = settings }
+
+abbrev pub standbyOf : List ℕ → Bool
+standbyOf settings = has (settingOf settings 0x03) standby
+
+-- P10: the pointer set
+abbrev pub pointedOf : Device → ℕ → Device
+pointedOf d r = setUpOf d r (d .pending) (d .settings)
+
+-- P6, P9: the mask bit becomes 1
+unfoldable pub maskedOf : Device → Device
+maskedOf d = setUpOf d (d .pointer) (d .pending) (changedOf (d .settings) 0x03 (bitOr (configurationOf d) alertMask))
+
+-- ---- write byte
+
+abbrev pub storedIn : Device → ℕ → ℕ → ℕ → List ℕ
+storedIn d w i v = set (d .settings) i (bitAnd v (keptOf w))
+
+-- the settable register w, at position i, keeps the value's kept bits; P11: leaving standby clears a pending one-shot
+unfoldable pub storedOf : Device → ℕ → ℕ → ℕ → Device
+storedOf d w i v = setUpOf d w (d .pending && standbyOf (storedIn d w i v)) (storedIn d w i v)
+
+-- P11: a write to 0F in standby makes a conversion pending, and out of standby does nothing but set the pointer
+unfoldable pub firedOf : Device → Device
+firedOf d = setUpOf d oneShot (d .pending || standbyOf (d .settings)) (d .settings)
+
+-- a register outside W is not acknowledged
+unfoldable pub putOf : Device → ℕ → ℕ → Outcome
+putOf d w v =
+    cond (eqb w oneShot) (answeredOf (firedOf d) 0)
+    (onPosition (writePositionOf w) (λ i. answeredOf (storedOf d w i v) 0) (silentOf d))
+
+-- ---- read byte
+
+-- status cleared
+abbrev pub quietOf : Device → Device
+quietOf d = record { variant = d .variant; pointer = d .pointer; pending = d .pending; status = 0; sensed = d .sensed; settings = d .settings }
+
+-- P6: a read of 02 clears status; if BF D0 is 0 and a bit of 7Bh was set, the mask bit becomes 1
+unfoldable pub statusReadOf : Device → Device
+statusReadOf d = cond (not (comparatorOf d) && has (d .status) alerting) (maskedOf (quietOf d)) (quietOf d)
+
+-- the registers that no write sets: 00 local, 01 and 10 the two bytes of the latest remote reading (P12), 02 status, FE and FF
+unfoldable pub measuredOf : Device → ℕ → ℕ
+measuredOf d r =
+    cond (eqb r 0x00) (d .sensed .local)
+    (cond (eqb r 0x01) (highByteOf (d .sensed .remote))
+    (cond (eqb r 0x02) (d .status)
+    (cond (eqb r 0x10) (lowByteOf (d .sensed .remote))
+    (readOnlyOf (d .variant) r))))
+
+unfoldable pub valueOf : Device → ℕ → ℕ
+valueOf d r = onPosition (readPositionOf r) (λ i. getD (d .settings) i 0) (measuredOf d r)
+
+abbrev pub afterReadOf : Device → ℕ → Device
+afterReadOf d r = cond (eqb r 0x02) (statusReadOf d) d
+
+-- P10: a register outside R is not acknowledged
+unfoldable pub getOf : Device → ℕ → Outcome
+getOf d r = cond (readableOf r) (answeredOf (afterReadOf (pointedOf d r) r) (valueOf d r)) (silentOf d)
+
+-- ---- send byte
+
+-- P10: any register in R or W
+unfoldable pub pointOf : Device → ℕ → Outcome
+pointOf d r = cond (knownOf r) (answeredOf (pointedOf d r) 0) (silentOf d)
+
+-- ---- alert response
+
+abbrev pub alertResponse : ℕ
+alertResponse = 0x0C
+
+-- P9: ALERT pulled and BF D0 = 0 let the device answer
+unfoldable pub respondsOf : Device → Bool
+respondsOf d = alertOf d && not (comparatorOf d)
+
+-- P9: the address times 2 plus 1, and the mask bit becomes 1
+unfoldable pub respondOf : Device → Outcome
+respondOf d = cond (respondsOf d) (answeredOf (maskedOf d) (addressOf (d .variant) * 2 + 1)) (silentOf d)
+
+-- ---- conversion
+
+-- P11: in standby only if a one-shot is pending
+unfoldable pub takesOf : Device → Bool
+takesOf d = not (standbyOf (d .settings)) || d .pending
+
+-- P5: status gathers the live bits; P11: taking it clears a pending one-shot
+abbrev pub gatheredOf : Device → Sensed → Device
+gatheredOf d n =
+    record { variant = d .variant; pointer = d .pointer; pending = false; status = bitOr (d .status) (n .live); sensed = n; settings = d .settings }
+
+unfoldable pub convertedOf : Device → ℕ → ℤ → Bool → Device
+convertedOf d local remote broken = gatheredOf d (sensedOf (d .settings) (d .sensed) local remote broken)
+
+-- P11: a conversion not taken changes nothing
+unfoldable pub senseOf : Device → ℕ → ℤ → Bool → Outcome
+senseOf d local remote broken =
+    cond (takesOf d) (record { device = convertedOf d local remote broken; acknowledged = false; taken = true; byte = 0 }) (silentOf d)
+
+-- ---- power-on
+
+-- the page's bytes, the pointer at 00 (P10), nothing pending, live, counted or latched
+unfoldable pub poweredOf : ℕ → Device
+poweredOf variant =
+    record {
+      variant = variant;
+      pointer = 0x00;
+      pending = false;
+      status = readOnlyOf variant 0x02;
+      sensed = record {
+        local = readOnlyOf variant 0x00;
+        remote = eighthsOf (readOnlyOf variant 0x01) (readOnlyOf variant 0x10);
+        live = 0;
+        faults = 0;
+        llatch = false;
+        rlatch = false;
+      };
+      settings = powerOnOf variant;
+    }
+
+-- ---- what an event asks
+
+-- P10: at another address nothing
+abbrev pub atOf : Device → ℕ → Asked → Asked
+atOf d address asked = cond (eqb address (addressOf (d .variant))) asked Nothing
+
+-- P9: a receive from 0C is the alert response; P10: any other uses the pointer. P2: the reading, or 127 degrees if the diode is open
+unfoldable pub askedOf : Device → Event → Asked
+askedOf d (Write address w v) = atOf d address (Put w v)
+askedOf d (Read address r) = atOf d address (Get r)
+askedOf d (Send address r) = atOf d address (Point r)
+askedOf d (Receive address) = cond (eqb address alertResponse) Respond (atOf d address (Get (d .pointer)))
+askedOf d (Convert local high low) = Sense local (readingOf (d .settings) high low) false
+askedOf d (Open local) = Sense local openReading true
+askedOf d PowerOn = Restart
+
+-- what the device does
+unfoldable pub doneOf : Device → Asked → Outcome
+doneOf d (Put w v) = putOf d w v
+doneOf d (Get r) = getOf d r
+doneOf d (Point r) = pointOf d r
+doneOf d Respond = respondOf d
+doneOf d (Sense local remote broken) = senseOf d local remote broken
+doneOf d Restart = silentOf (poweredOf (d .variant))
+doneOf d Nothing = silentOf d

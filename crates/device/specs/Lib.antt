@@ -1,0 +1,4 @@
+pub mod Pins
+pub mod Bus
+pub mod Ranges
+pub mod Step

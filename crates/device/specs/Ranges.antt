@@ -1,0 +1,62 @@
+-- A state's ranges, of the device's part, and an event's operands. No other test is made.
+-- Assumes nothing.
+use Prim.Native.Nat.{ℕ, _%_}
+use mathlib.Core.Bool.{Bool, true, not, _||_, _&&_}
+use mathlib.Core.List.{List, [], _∷_, map}
+use lib.IntN.{pos, negℤ}
+use lib.Signed.{leZ}
+use lib.Dec.{ltb, leb, eqb}
+use lib.Bits.{bitAnd}
+use Rattle.registers.specs.Page.{Settable, settable, settingOf, knownOf}
+use Rattle.device.specs.declared.Device.{Device}
+use Rattle.device.specs.declared.Event.{Event}
+use Rattle.device.specs.declared.Event.the-variants.{Write, Read, Send, Receive, Convert, Open, PowerOn}
+use Rattle.device.specs.Bus.{standbyOf}
+
+abbrev pub all : List Bool → Bool
+all [] = true
+all (t ∷ []) = t
+all (t ∷ u ∷ ts) = t && all (u ∷ ts)
+
+-- variant 1 to 3
+unfoldable pub variantOf : ℕ → Bool
+variantOf variant = leb 1 variant && leb variant 3
+
+-- a register byte within its mask
+abbrev pub keepsOf : List ℕ → Settable → Bool
+keepsOf settings s = eqb (bitAnd (settingOf settings (s .read)) (s .kept)) (settingOf settings (s .read))
+
+unfoldable pub masksOf : List ℕ → Bool
+masksOf settings = all (map (keepsOf settings) settable)
+
+abbrev pub rangeTests : Device → List Bool
+rangeTests d =
+    -- fault count 0 to 3
+    leb (d .sensed .faults) 3 ∷
+    -- remote reading -1024 to 1023 eighths
+    leZ (negℤ (pos 1024)) (d .sensed .remote) ∷
+    leZ (d .sensed .remote) (pos 1023) ∷
+    -- pointer in R or W
+    knownOf (d .pointer) ∷
+    -- status and live byte with D7 clear
+    ltb (d .status) 0x80 ∷
+    ltb (d .sensed .live) 0x80 ∷
+    -- register bytes within their masks
+    masksOf (d .settings) ∷
+    -- one-shot pending only in standby
+    (not (d .pending) || standbyOf (d .settings)) ∷
+    []
+
+unfoldable pub rangedOf : Device → Bool
+rangedOf d = all (rangeTests d)
+
+-- ---- operands: addresses are at most 7Fh, a remote low byte is a multiple of 32
+
+unfoldable pub operandsOf : Event → Bool
+operandsOf (Write address w v) = leb address 0x7F
+operandsOf (Read address r) = leb address 0x7F
+operandsOf (Send address r) = leb address 0x7F
+operandsOf (Receive address) = leb address 0x7F
+operandsOf (Convert local high low) = eqb (low % 32) 0
+operandsOf (Open local) = true
+operandsOf PowerOn = true

@@ -1,0 +1,255 @@
+// P6 and P9 to P12: the bus, conversions and power-on.
+ghost use mathlib.Core.Path.{_≡_};
+ghost use Prim.Native.Nat.{_<_};
+ghost use Rattle.device.specs.Bus.{silentOf, answeredOf, pointedOf, maskedOf, storedOf, firedOf, putOf, statusReadOf, measuredOf, valueOf, getOf, pointOf, respondsOf, respondOf, takesOf, convertedOf, senseOf, poweredOf, atOf, askedOf};
+use super::Asked;
+use super::Device;
+use super::Event;
+use super::Outcome;
+use super::outputs;
+use conversion::Sensed;
+use registers::Position;
+
+const ALERT_RESPONSE: u8 = 0x0C;
+
+const STANDBY: u8 = 0x40;
+
+pub(crate) fn silent(d: Device) -> Outcome
+    ensures { λ r. ⌜ r ≡ silentOf d ⌝ }
+{
+    Outcome {
+        device: d,
+        acknowledged: false,
+        taken: false,
+        byte: 0,
+    }
+}
+
+fn answered(d: Device, byte: u8) -> Outcome
+    ensures { λ r. ⌜ r ≡ answeredOf d byte ⌝ }
+{
+    Outcome {
+        device: d,
+        acknowledged: true,
+        taken: false,
+        byte,
+    }
+}
+
+fn pointed(d: Device, reg: u8) -> Device
+    ensures { λ r. ⌜ r ≡ pointedOf d reg ⌝ }
+{
+    let mut n = d;
+    n.pointer = reg;
+    n
+}
+
+// The ALERT mask bit becomes 1.
+fn masked(d: Device) -> Device
+    ensures { λ r. ⌜ r ≡ maskedOf d ⌝ }
+{
+    let mut n = d;
+    n.settings[registers::CONFIGURATION] = d.settings[registers::CONFIGURATION] | 0x80;
+    n
+}
+
+fn stored(d: Device, reg: u8, i: usize, v: u8) -> Device
+    requires { ⌜ i < 14 ⌝ }
+    ensures { λ r. ⌜ r ≡ storedOf d reg i v ⌝ }
+{
+    let mut n = d;
+    n.settings[i] = v & registers::kept(reg);
+    n.pointer = reg;
+    n.pending = d.pending & (n.settings[registers::CONFIGURATION] & STANDBY != 0);
+    n
+}
+
+fn fired(d: Device) -> Device
+    ensures { λ r. ⌜ r ≡ firedOf d ⌝ }
+{
+    let mut n = d;
+    n.pointer = registers::ONE_SHOT;
+    n.pending = d.pending | (d.settings[registers::CONFIGURATION] & STANDBY != 0);
+    n
+}
+
+// Write byte.
+pub(crate) fn put(d: Device, reg: u8, v: u8) -> Outcome
+    ensures { λ r. ⌜ r ≡ putOf d reg v ⌝ }
+{
+    if reg == registers::ONE_SHOT {
+        return answered(fired(d), 0);
+    }
+    let p = registers::write_position(reg);
+    match p {
+        Position::At(i) => answered(stored(d, reg, i as usize, v), 0),
+        Position::Nowhere => silent(d),
+    }
+}
+
+fn status_read(d: Device) -> Device
+    ensures { λ r. ⌜ r ≡ statusReadOf d ⌝ }
+{
+    let mut n = d;
+    n.status = 0;
+    if !outputs::comparator(d) & (d.status & 0x7B != 0) {
+        masked(n)
+    } else {
+        n
+    }
+}
+
+fn measured(d: Device, reg: u8) -> u8
+    ensures { λ r. ⌜ r ≡ measuredOf d reg ⌝ }
+{
+    let s = d.sensed;
+    match reg {
+        0x00 => s.local,
+        0x01 => temperature::high_byte(s.remote),
+        0x02 => d.status,
+        0x10 => temperature::low_byte(s.remote),
+        _ => registers::read_only(d.variant, reg),
+    }
+}
+
+fn value(d: Device, reg: u8) -> u8
+    ensures { λ r. ⌜ r ≡ valueOf d reg ⌝ }
+{
+    let p = registers::read_position(reg);
+    match p {
+        Position::At(i) => d.settings[i as usize],
+        Position::Nowhere => measured(d, reg),
+    }
+}
+
+// Read byte, and receive byte with the pointer.
+pub(crate) fn get(d: Device, reg: u8) -> Outcome
+    ensures { λ r. ⌜ r ≡ getOf d reg ⌝ }
+{
+    if !registers::readable(reg) {
+        return silent(d);
+    }
+    let byte = value(d, reg);
+    let n = pointed(d, reg);
+    if reg == registers::STATUS {
+        return answered(status_read(n), byte);
+    }
+    answered(n, byte)
+}
+
+// Send byte.
+pub(crate) fn point(d: Device, reg: u8) -> Outcome
+    ensures { λ r. ⌜ r ≡ pointOf d reg ⌝ }
+{
+    if registers::known(reg) {
+        answered(pointed(d, reg), 0)
+    } else {
+        silent(d)
+    }
+}
+
+// P9 lets the device answer an alert response.
+pub fn responds(d: Device) -> bool
+    ensures { λ r. ⌜ r ≡ respondsOf d ⌝ }
+{
+    outputs::alert(d) & !outputs::comparator(d)
+}
+
+// Alert response.
+pub(crate) fn respond(d: Device) -> Outcome
+    ensures { λ r. ⌜ r ≡ respondOf d ⌝ }
+{
+    if responds(d) {
+        answered(masked(d), registers::address(d.variant) * 2 + 1)
+    } else {
+        silent(d)
+    }
+}
+
+fn takes(d: Device) -> bool
+    ensures { λ r. ⌜ r ≡ takesOf d ⌝ }
+{
+    !(d.settings[registers::CONFIGURATION] & STANDBY != 0) | d.pending
+}
+
+fn converted(d: Device, local: u8, remote: i16, broken: bool) -> Device
+    ensures { λ r. ⌜ r ≡ convertedOf d local remote broken ⌝ }
+{
+    let s = d.settings;
+    let old = d.sensed;
+    let sensed = conversion::sense(s, old, local, remote, broken);
+    let mut n = d;
+    n.sensed = sensed;
+    n.status = d.status | sensed.live;
+    n.pending = false;
+    n
+}
+
+// A conversion, taken or not.
+pub(crate) fn sense(d: Device, local: u8, remote: i16, broken: bool) -> Outcome
+    ensures { λ r. ⌜ r ≡ senseOf d local remote broken ⌝ }
+{
+    if !takes(d) {
+        return silent(d);
+    }
+    Outcome {
+        device: converted(d, local, remote, broken),
+        acknowledged: false,
+        taken: true,
+        byte: 0,
+    }
+}
+
+// A device as after power-on.
+pub fn powered(variant: u8) -> Device
+    ensures { λ r. ⌜ r ≡ poweredOf variant ⌝ }
+{
+    let sensed = Sensed {
+        local: 0,
+        remote: 0,
+        live: 0,
+        faults: 0,
+        llatch: false,
+        rlatch: false,
+    };
+    Device {
+        variant,
+        pointer: 0,
+        pending: false,
+        status: 0,
+        sensed,
+        settings: registers::power_on(variant),
+    }
+}
+
+fn at(d: Device, address: u8, asked: Asked) -> Asked
+    ensures { λ r. ⌜ r ≡ atOf d address asked ⌝ }
+{
+    if address == registers::address(d.variant) {
+        asked
+    } else {
+        Asked::Nothing
+    }
+}
+
+// What the event asks of this device.
+pub(crate) fn asked(d: Device, e: Event) -> Asked
+    ensures { λ r. ⌜ r ≡ askedOf d e ⌝ }
+{
+    match e {
+        Event::Write(address, reg, v) => at(d, address, Asked::Put(reg, v)),
+        Event::Read(address, reg) => at(d, address, Asked::Get(reg)),
+        Event::Send(address, reg) => at(d, address, Asked::Point(reg)),
+        Event::Receive(address) => if address == ALERT_RESPONSE {
+            Asked::Respond
+        } else {
+            at(d, address, Asked::Get(d.pointer))
+        },
+        Event::Convert(local, high, low) => {
+            let s = d.settings;
+            Asked::Sense(local, conversion::reading(s, high, low), false)
+        }
+        Event::Open(local) => Asked::Sense(local, 1016, true),
+        Event::PowerOn => Asked::Restart,
+    }
+}

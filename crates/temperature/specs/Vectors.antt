@@ -1,0 +1,64 @@
+-- Worked temperatures: the rows of source document 004, section 9.3.5, and document 01's own numbers, as theorems about the definitions.
+-- Assumes nothing.
+use mathlib.Core.Path.{_≡_, refl}
+use mathlib.Core.Bool.{Bool, true, false}
+use mathlib.Core.List.{List, [], _∷_, map}
+use Prim.Native.Nat.{ℕ}
+use lib.IntN.{ℤ, pos, negℤ}
+use Rattle.temperature.specs.Temperature.{degreesOf, eighthsOf, sumOf, heldOf, highByteOf, lowByteOf, aboveOf, belowOf, clearedOf}
+
+pub record Row : Type 0 where
+  pub high : ℕ
+  pub low : ℕ
+  pub eighths : ℤ
+
+abbrev row : ℕ → ℕ → ℤ → Row
+row high low eighths = record { high = high; low = low; eighths = eighths }
+
+-- 003 prints 7100h for +110; the binary beside it is 6E00h, and arithmetic decides
+abbrev pub rows : List Row
+rows =
+    row 0x7D 0x00 (pos 1000) ∷
+    row 0x6E 0x00 (pos 880) ∷
+    row 0x19 0x00 (pos 200) ∷
+    row 0x01 0x00 (pos 8) ∷
+    row 0x00 0x20 (pos 1) ∷
+    row 0x00 0x00 (pos 0) ∷
+    row 0xFF 0xE0 (negℤ (pos 1)) ∷
+    row 0xFF 0x00 (negℤ (pos 8)) ∷
+    row 0xE7 0x00 (negℤ (pos 200)) ∷
+    row 0xC9 0x00 (negℤ (pos 440)) ∷
+    row 0x80 0x00 (negℤ (pos 1024)) ∷
+    row 0x7F 0xE0 (pos 1023) ∷
+    []
+
+-- two bytes give the eighths
+pub read : map (λ (r : Row). eighthsOf (r .high) (r .low)) rows ≡ map (λ (r : Row). r .eighths) rows
+unfolding eighthsOf degreesOf
+read = refl
+
+-- the eighths give the two bytes
+pub high-back : map (λ (r : Row). highByteOf (r .eighths)) rows ≡ map (λ (r : Row). r .high) rows
+high-back = refl
+
+pub low-back : map (λ (r : Row). lowByteOf (r .eighths)) rows ≡ map (λ (r : Row). r .low) rows
+low-back = refl
+
+-- a sum of exactly 1023 or -1024 is not held; 1024 and -1025 are
+pub ends : map heldOf (pos 1023 ∷ pos 1024 ∷ negℤ (pos 1024) ∷ negℤ (pos 1025) ∷ []) ≡ pos 1023 ∷ pos 1023 ∷ negℤ (pos 1024) ∷ negℤ (pos 1024) ∷ []
+unfolding heldOf
+ends = refl
+
+-- 127.5 plus 1 is 1028 eighths before it is held, and -128 plus -1 is -1032
+pub sums : sumOf 0x7F 0x80 0x01 0x00 ∷ sumOf 0x80 0x00 0xFF 0x00 ∷ [] ≡ pos 1028 ∷ negℤ (pos 1032) ∷ []
+unfolding sumOf eighthsOf degreesOf
+sums = refl
+
+-- strictly above and strictly below: a reading at its limit is within it
+pub strict : aboveOf (pos 681) (pos 680) ∷ aboveOf (pos 680) (pos 680) ∷ belowOf (pos 679) (pos 680) ∷ belowOf (pos 680) (pos 680) ∷ [] ≡ true ∷ false ∷ true ∷ false ∷ []
+strict = refl
+
+-- T_CRIT 85, hysteresis 5: 80.000 is not below, 79.875 is; T_CRIT -128, hysteresis 1: -128 is not below -129
+pub clears : clearedOf (pos 640) 0x55 5 ∷ clearedOf (pos 639) 0x55 5 ∷ clearedOf (negℤ (pos 1024)) 0x80 1 ∷ [] ≡ false ∷ true ∷ false ∷ []
+unfolding clearedOf eighthsOf degreesOf
+clears = refl

@@ -1,0 +1,81 @@
+// Temperatures (P1 to P3): two's complement bytes, signed eighths of a degree, and their comparisons.
+ghost use mathlib.Core.Path.{_≡_};
+ghost use Rattle.temperature.specs.Temperature.{degreesOf, eighthsOf, sumOf, heldOf, readingOf, aboveOf, belowOf, clearedOf, wordOf, highByteOf, lowByteOf};
+
+// P1: a byte as whole degrees.
+pub fn degrees(b: u8) -> i16
+    ensures { λ r. ⌜ r ≡ degreesOf b ⌝ }
+{
+    if b < 0x80 { b as i16 } else { b as i16 - 0x100 }
+}
+
+// P1: a high byte and the top three bits of a low byte as eighths.
+pub fn eighths(high: u8, low: u8) -> i16
+    ensures { λ r. ⌜ r ≡ eighthsOf high low ⌝ }
+{
+    degrees(high) * 8 + (low / 32) as i16
+}
+
+fn hold(sum: i16) -> i16
+    ensures { λ r. ⌜ r ≡ heldOf sum ⌝ }
+{
+    if 1023 < sum {
+        1023
+    } else if sum < -1024 {
+        -1024
+    } else {
+        sum
+    }
+}
+
+// P2: a sample plus the offset with its low byte `part`, held to the scale.
+pub fn reading(high: u8, low: u8, offset: u8, part: u8) -> i16
+    ensures { λ r. ⌜ r ≡ readingOf high low offset part ⌝ }
+{
+    hold(eighths(high, low) + eighths(offset, part))
+}
+
+// P3: strictly above a limit.
+pub fn above(t: i16, limit: i16) -> bool
+    ensures { λ r. ⌜ r ≡ aboveOf t limit ⌝ }
+{
+    limit < t
+}
+
+// P3: strictly below a limit.
+pub fn below(t: i16, limit: i16) -> bool
+    ensures { λ r. ⌜ r ≡ belowOf t limit ⌝ }
+{
+    t < limit
+}
+
+// P8: strictly below a T_CRIT byte less a hysteresis byte.
+pub fn cleared(t: i16, crit: u8, hysteresis: u8) -> bool
+    ensures { λ r. ⌜ r ≡ clearedOf t crit hysteresis ⌝ }
+{
+    t < eighths(crit, 0) - (hysteresis as i16) * 8
+}
+
+fn word(t: i16) -> u16
+    ensures { λ r. ⌜ r ≡ wordOf t ⌝ }
+{
+    if t < 0 {
+        (t as i32 + 0x10000) as u16
+    } else {
+        t as u16
+    }
+}
+
+// P1 the other way: the high byte of a reading.
+pub fn high_byte(t: i16) -> u8
+    ensures { λ r. ⌜ r ≡ highByteOf t ⌝ }
+{
+    (word(t) / 8 % 0x100) as u8
+}
+
+// P1 the other way: the low byte of a reading.
+pub fn low_byte(t: i16) -> u8
+    ensures { λ r. ⌜ r ≡ lowByteOf t ⌝ }
+{
+    (word(t) % 8 * 32) as u8
+}
