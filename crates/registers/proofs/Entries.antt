@@ -6,7 +6,7 @@ use Prim.Native.Nat.{ℕ, zero, suc, _<_, _≤_}
 use native.Mathlib.Omega.{arith}
 use lib.Dec.{eqb, ltb}
 use borrow.Author.Tests.{lt-ltb, le-ltb}
-use Rattle.temperature.proofs.Tables.{agree}
+use Rattle.laws.proofs.Tables.{agree}
 use Rattle.registers.specs.declared.Position.{Position}
 use Rattle.registers.specs.declared.Position.the-variants.{At, Nowhere}
 use Rattle.registers.specs.Page.{Default, all, each, column, page, readOnlyIn, readableOf, writableOf, writePositionOf, readPositionOf, readOnlyOf}

@@ -1,15 +1,17 @@
 -- Where each named setting stands among the fourteen bytes, that every position is below 14 and every address below 80h.
 -- Assumes nothing.
-use mathlib.Core.Path.{_≡_, refl}
+use mathlib.Core.Path.{_≡_, refl, ap, _∙_}
 use mathlib.Core.Bool.{Bool, true, false, cond}
 use mathlib.Core.List.{List, [], _∷_, map}
-use Prim.Native.Nat.{ℕ, zero, suc, _+_, _<_}
+use Prim.Native.Nat.{ℕ, suc, _+_, _-_, _≤_, _<_}
 use native.Mathlib.Omega.{arith}
 use lib.Dec.{eqb, lit<}
 use lib.ListN.{getD, set, length}
-use Rattle.registers.specs.declared.Position.{Position}
-use Rattle.registers.specs.declared.Position.the-variants.{At, Nowhere}
-use Rattle.registers.specs.Page.{Settable, settable, find, settingOf, changedOf, readPositionOf, writePositionOf, addressOf}
+use borrow.Author.Tests.{eqb-true}
+use Rattle.laws.proofs.Choices.{by-test}
+use Rattle.laws.proofs.Tables.{agree}
+use Rattle.registers.specs.declared.Position.the-variants.{At}
+use Rattle.registers.specs.Page.{Settable, settable, find, settingOf, changedOf, readPositionOf, writePositionOf, keptOf, knownOf, readableOf, writableOf, addressOf}
 
 module _ (s : List ℕ) where
   pub configuration : settingOf s 0x03 ≡ getD s 0 0
@@ -70,21 +72,58 @@ module _ (s : List ℕ) where
 
 -- ---- positions
 
-found-below : (x n : ℕ) (l : List ℕ) (i : ℕ) → find x n l ≡ At i → i < n + length l
-found-below x n [] i e = let z : _≡_ {A = ℕ} 0 1 = cc in absurd (omega arith)
-found-below x n (y ∷ ys) i e = split (eqb x y) e (λ q. found-below x (suc n) ys i q)
+-- what is found at position i of a list that begins at n is the list's entry there, and i is in the list
+pub record Found (x n i : ℕ) (l : List ℕ) : Type 0 where
+  pub from : n ≤ i
+  pub below : i < n + length l
+  pub entry : x ≡ getD l (i - n) 0
+
+found : (x n : ℕ) (l : List ℕ) (i : ℕ) → find x n l ≡ At i → Found x n i l
+found x n [] i e = let z : _≡_ {A = ℕ} 0 1 = cc in absurd (omega arith)
+found x n (y ∷ ys) i e = by-test (eqb x y) (λ t. here t (rw t at e)) (λ t. there (found x (suc n) ys i (rw t at e)))
   where
-    split : (t : Bool) → cond t (At n) (find x (suc n) ys) ≡ At i → (find x (suc n) ys ≡ At i → i < suc n + length ys) → i < n + length (y ∷ ys)
-    split true q f = let same : n ≡ i = cc in omega arith
-    split false q f = omega (arith, f q)
+    here : eqb x y ≡ true → At n ≡ At i → Found x n i (y ∷ ys)
+    here t q =
+        let same : n ≡ i = cc in
+        let none : i - n ≡ 0 = omega arith in
+        record { from = omega arith; below = omega arith; entry = rw none (eqb-true x y t) }
+
+    there : Found x (suc n) i ys → Found x n i (y ∷ ys)
+    there f =
+        let one : i - n ≡ suc (i - suc n) = omega (arith, f .from) in
+        record { from = omega (arith, f .from); below = omega (arith, f .below); entry = rw one (f .entry) }
+
+abbrev writeAddresses : List ℕ
+writeAddresses = map (λ (s : Settable). s .write) settable
 
 pub write-below : (w i : ℕ) → writePositionOf w ≡ At i → i < 14
 unfolding writePositionOf
-write-below w i e = found-below w 0 (map (λ (s : Settable). s .write) settable) i e
+write-below w i e = found w 0 writeAddresses i e .below
 
 pub read-below : (r i : ℕ) → readPositionOf r ≡ At i → i < 14
 unfolding readPositionOf
-read-below r i e = found-below r 0 (map (λ (s : Settable). s .read) settable) i e
+read-below r i e = found r 0 (map (λ (s : Settable). s .read) settable) i e .below
+
+-- a settable register stands at its write address
+write-entry : (w i : ℕ) → writePositionOf w ≡ At i → w ≡ getD writeAddresses i 0
+unfolding writePositionOf
+write-entry w i e = let whole : i - 0 ≡ i = omega arith in rw whole at (found w 0 writeAddresses i e .entry)
+
+-- the mask at a position of the fourteen
+abbrev pub keptAt : ℕ → ℕ
+keptAt i = getD (map (λ (s : Settable). s .kept) settable) i 0
+
+-- the mask of a register is the one at its position
+pub write-kept : (w i : ℕ) → writePositionOf w ≡ At i → keptOf w ≡ keptAt i
+unfolding keptOf
+write-kept w i e =
+    ap keptOf (write-entry w i e) ∙ agree (λ k. keptOf (getD writeAddresses k 0)) keptAt 14 refl i (write-below w i e)
+
+-- a settable register is in W
+pub write-known : (w i : ℕ) → writePositionOf w ≡ At i → knownOf w ≡ true
+unfolding knownOf readableOf writableOf
+write-known w i e =
+    ap knownOf (write-entry w i e) ∙ agree (λ k. knownOf (getD writeAddresses k 0)) (λ k. true) 14 refl i (write-below w i e)
 
 -- ---- addresses
 

@@ -7,7 +7,7 @@ use Prim.Native.Nat.{ℕ, _+_, _*_, _/_, _%_, _<_}
 use native.Mathlib.Omega.{arith}
 use lib.IntN.{ℤ, pos, _-ℤ_}
 use Rattle.temperature.specs.Temperature.{degreesOf, eighthsOf, highByteOf, lowByteOf}
-use Rattle.temperature.proofs.Tables.{agree}
+use Rattle.laws.proofs.Tables.{agree}
 
 -- the 2,048 pairs of bytes, counted by eighths
 pairs-high : (n : ℕ) → n < 2048 → highByteOf (eighthsOf (n / 8) (n % 8 * 32)) ≡ n / 8

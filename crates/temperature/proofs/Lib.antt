@@ -1,4 +1,2 @@
 pub mod Laws
 pub mod Bytes
-pub mod OneAnswer
-pub mod Tables

@@ -1,6 +1,6 @@
 -- Assumes nothing.
 use borrow.Author.Needs.{needs}
-use Rattle.temperature.proofs.Tables.{entry}
+use Rattle.laws.proofs.Tables.{entry}
 use Rattle.registers.specs.Page.{keptOf}
 use Rattle.registers.proofs.kept.Statement.{statement}
 use Rattle.registers.proofs.kept.Tie as tie

@@ -1,6 +1,6 @@
 -- Assumes nothing.
 use borrow.Author.Needs.{needs}
-use Rattle.temperature.proofs.Tables.{entry}
+use Rattle.laws.proofs.Tables.{entry}
 use Rattle.registers.specs.Page.{readableOf, readPositionOf}
 use Rattle.registers.proofs.Entries.{readEntry, read-place, stands, nowhere}
 use Rattle.registers.proofs.read_position.Statement.{statement}

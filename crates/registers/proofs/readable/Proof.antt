@@ -1,7 +1,7 @@
 -- Assumes nothing.
 use mathlib.Core.Path.{_∙_}
 use borrow.Author.Needs.{needs}
-use Rattle.temperature.proofs.Tables.{entry}
+use Rattle.laws.proofs.Tables.{entry}
 use Rattle.registers.specs.Page.{readableOf, readPositionOf}
 use Rattle.registers.proofs.Entries.{readEntry, read-right}
 use Rattle.registers.proofs.readable.Statement.{statement}

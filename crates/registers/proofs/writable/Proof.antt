@@ -1,7 +1,7 @@
 -- Assumes nothing.
 use mathlib.Core.Path.{_∙_}
 use borrow.Author.Needs.{needs}
-use Rattle.temperature.proofs.Tables.{entry}
+use Rattle.laws.proofs.Tables.{entry}
 use Rattle.registers.specs.Page.{writableOf, writePositionOf}
 use Rattle.registers.proofs.Entries.{writeEntry, write-right}
 use Rattle.registers.proofs.writable.Statement.{statement}

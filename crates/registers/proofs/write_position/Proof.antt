@@ -1,6 +1,6 @@
 -- Assumes nothing.
 use borrow.Author.Needs.{needs}
-use Rattle.temperature.proofs.Tables.{entry}
+use Rattle.laws.proofs.Tables.{entry}
 use Rattle.registers.specs.Page.{writableOf, writePositionOf}
 use Rattle.registers.proofs.Entries.{writeEntry, write-place, stands, nowhere}
 use Rattle.registers.proofs.write_position.Statement.{statement}

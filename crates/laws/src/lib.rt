@@ -1,0 +1,1 @@
+// No code: the laws in proofs/ belong to no section of document 01 and serve every crate.
