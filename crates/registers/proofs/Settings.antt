@@ -8,7 +8,7 @@ use native.Mathlib.Omega.{arith}
 use lib.Dec.{eqb, lit<}
 use lib.ListN.{getD, set, length}
 use borrow.Author.Tests.{eqb-true}
-use Rattle.laws.proofs.Choices.{by-test}
+use Rattle.laws.proofs.Choices.{by-test, or-right}
 use Rattle.laws.proofs.Tables.{agree}
 use Rattle.registers.specs.declared.Position.the-variants.{At}
 use Rattle.registers.specs.Page.{Settable, settable, find, settingOf, changedOf, readPositionOf, writePositionOf, keptOf, knownOf, readableOf, writableOf, addressOf}
@@ -120,10 +120,14 @@ write-kept w i e =
     ap keptOf (write-entry w i e) ∙ agree (λ k. keptOf (getD writeAddresses k 0)) keptAt 14 refl i (write-below w i e)
 
 -- a settable register is in W
+pub write-writable : (w i : ℕ) → writePositionOf w ≡ At i → writableOf w ≡ true
+unfolding writableOf
+write-writable w i e =
+    ap writableOf (write-entry w i e) ∙ agree (λ k. writableOf (getD writeAddresses k 0)) (λ k. true) 14 refl i (write-below w i e)
+
 pub write-known : (w i : ℕ) → writePositionOf w ≡ At i → knownOf w ≡ true
-unfolding knownOf readableOf writableOf
-write-known w i e =
-    ap knownOf (write-entry w i e) ∙ agree (λ k. knownOf (getD writeAddresses k 0)) (λ k. true) 14 refl i (write-below w i e)
+unfolding knownOf
+write-known w i e = or-right (readableOf w) (writableOf w) (write-writable w i e)
 
 -- ---- addresses
 

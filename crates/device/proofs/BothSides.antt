@@ -1,0 +1,95 @@
+-- `both-sides`: document 01's "Both sides of each line", all ten lines.
+-- Assumes nothing.
+use mathlib.Core.Path.{_≡_, refl, sym, _∙_}
+use mathlib.Core.Bool.{Bool, true, false, cond}
+use mathlib.Core.List.{List, [], _∷_, map}
+use Prim.Native.Nat.{ℕ, _<_, _≤_}
+use native.Mathlib.Omega.{arith}
+use native.Mathlib.Decide.{decLt}
+use lib.IntN.{ℤ, pos, negsuc, _-ℤ_}
+use lib.Signed.{mag, ltZ}
+use lib.Dec.{ltb, lit<}
+use borrow.Author.Tests.{le-ltb}
+use Rattle.laws.proofs.Choices.{cond-ind}
+use Rattle.temperature.proofs.Laws.{eighths-within}
+use Rattle.temperature.specs.Temperature.{degreesOf, eighthsOf, sumOf, heldOf, clearedOf}
+use Rattle.registers.specs.Page.{readableOf, writableOf, knownOf, writePositionOf, readPositionOf, settingOf, changedOf, keptOf, powerOnOf, readOnlyOf, addressOf}
+use Rattle.conversion.specs.Conversion.{readingOf, localLimitsOf, remoteLimitsOf, outOf, anyOf, countOf, queuedOf, shownOf, liveOf, latchOf, sensedOf}
+use Rattle.device.specs.declared.Event.{Event}
+use Rattle.device.specs.declared.Event.the-variants.{Write, Read, Send, Receive, Convert, Open, PowerOn}
+use Rattle.device.specs.Pins.{comparatorOf, watchedOf, alertOf, tcritOf, pinsOf, firstOf}
+use Rattle.device.specs.Bus.{maskedOf, storedOf, firedOf, putOf, statusReadOf, measuredOf, valueOf, getOf, pointOf, respondsOf, respondOf, takesOf, convertedOf, senseOf, poweredOf, askedOf, doneOf}
+use Rattle.device.specs.Ranges.{variantOf, masksOf, rangedOf, operandsOf}
+use Rattle.device.specs.Step.{effectOf, answerOf, stepOf}
+use Rattle.device.specs.declared.Device.{Device}
+use Rattle.device.specs.declared.Outcome.{Outcome}
+use Rattle.device.specs.Profile.{IsConversion}
+use Rattle.device.specs.Run.{answersOf, afterOf}
+use Rattle.device.specs.BothSides.{Line, table, Conversions, BothSides}
+use Rattle.device.proofs.Steps.{step-ind}
+
+ten-lines : map (λ (l : Line). answersOf (afterOf (poweredOf 1) (l .scene)) (l .events)) table ≡ map (λ (l : Line). l .answers) table
+unfolding stepOf variantOf rangedOf masksOf operandsOf effectOf answerOf askedOf doneOf putOf storedOf firedOf getOf statusReadOf measuredOf valueOf maskedOf pointOf respondsOf respondOf takesOf convertedOf senseOf poweredOf comparatorOf watchedOf alertOf tcritOf pinsOf firstOf readingOf localLimitsOf remoteLimitsOf outOf anyOf countOf queuedOf shownOf liveOf latchOf sensedOf readableOf writableOf knownOf writePositionOf readPositionOf settingOf changedOf keptOf powerOnOf readOnlyOf addressOf degreesOf eighthsOf sumOf heldOf clearedOf
+ten-lines = refl
+
+-- ---- local T_CRIT -128, hysteresis 1
+
+not-below : (z : ℤ) → mag z < 1032 → ltZ z (negsuc 1031) ≡ false
+not-below (pos n) h = refl
+not-below (negsuc n) h = le-ltb 1031 n (omega arith)
+
+limit : eighthsOf 0x80 0 -ℤ pos 8 ≡ negsuc 1031
+unfolding eighthsOf degreesOf
+limit = refl
+
+large : (local : ℕ) → 256 ≤ local → ltZ (eighthsOf local 0) (negsuc 1031) ≡ false
+unfolding eighthsOf degreesOf
+large local h = rw (le-ltb local 0x80 (omega arith), le-ltb local 256 h)
+
+-- no byte is strictly below -129 degrees, and no larger number either
+not-cleared : (local : ℕ) → clearedOf (eighthsOf local 0) 0x80 1 ≡ false
+unfolding clearedOf
+not-cleared local = split (decLt local 256)
+  where
+    split : Dec (local < 256) → ltZ (eighthsOf local 0) (eighthsOf 0x80 0 -ℤ pos 8) ≡ false
+    split (yes h) = rw limit (not-below (eighthsOf local 0) (eighths-within local 0 (record { fits = h }) (record { fits = lit< tt }) .within))
+    split (no h) = rw limit (large local (omega arith))
+
+-- the latch set, and the two registers as they are
+record Stuck (d : Device) : Type 0 where
+  latch : d .sensed .llatch ≡ true
+  crit : settingOf (d .settings) 0x20 ≡ 0x80
+  less : settingOf (d .settings) 0x21 ≡ 0x01
+
+holds : (critical : Bool) → latchOf critical false true ≡ true
+unfolding latchOf
+holds true = refl
+holds false = refl
+
+converted-stuck : (d : Device) (local : ℕ) (remote : ℤ) (broken : Bool) → Stuck d → Stuck (convertedOf d local remote broken)
+unfolding convertedOf sensedOf
+converted-stuck d local remote broken h =
+    record { latch = rw (h .crit, h .less, not-cleared local, h .latch) (holds _); crit = h .crit; less = h .less }
+
+sense-stuck : (d : Device) (local : ℕ) (remote : ℤ) (broken : Bool) → Stuck d → Stuck (senseOf d local remote broken .device)
+unfolding senseOf
+sense-stuck d local remote broken h =
+    cond-ind (λ (o : Outcome). Stuck (o .device)) (takesOf d) (λ _. converted-stuck d local remote broken h) (λ _. h)
+
+effect-stuck : (d : Device) (e : Event) → IsConversion e → Stuck d → Stuck (effectOf d e .device)
+unfolding effectOf askedOf doneOf
+effect-stuck d (Write a w v) c h = absurd c
+effect-stuck d (Read a r) c h = absurd c
+effect-stuck d (Send a r) c h = absurd c
+effect-stuck d (Receive a) c h = absurd c
+effect-stuck d (Convert local high low) c h = sense-stuck d local _ false h
+effect-stuck d (Open local) c h = sense-stuck d local _ true h
+effect-stuck d PowerOn c h = absurd c
+
+run-stuck : (d : Device) (es : List Event) → Conversions es → Stuck d → afterOf d es .sensed .llatch ≡ true
+run-stuck d [] c h = h .latch
+run-stuck d (e ∷ es) c h = run-stuck (stepOf d e .device) es (c .1) (step-ind Stuck d e h (effect-stuck d e (c .0) h))
+
+pub both-sides : BothSides
+both-sides =
+    record { lines = ten-lines; never = λ d latch crit less es c. run-stuck d es c (record { latch = latch; crit = crit; less = less }) }

@@ -1,0 +1,22 @@
+-- `step-effect`: in range and with operands in the table a step is the effect with code 0.
+-- Assumes nothing.
+use mathlib.Core.Path.{_≡_}
+use mathlib.Core.Bool.{Bool, true, false, _&&_, cond}
+use Rattle.device.specs.declared.Device.{Device}
+use Rattle.device.specs.declared.Event.{Event}
+use Rattle.device.specs.Ranges.{variantOf, rangedOf, operandsOf}
+use Rattle.device.specs.Step.{effectOf, refusedOf, steppedOf, stepOf}
+
+pub step-effect : (d : Device) (e : Event) → variantOf (d .variant) ≡ true → rangedOf d ≡ true → operandsOf e ≡ true → stepOf d e ≡ steppedOf (effectOf d e)
+unfolding stepOf
+step-effect d e variant ranged operands = rw (variant, ranged, operands)
+
+-- what holds of a device and of its effect holds after a step, refused or not
+pub step-ind : (P : Device → Type 0) (d : Device) (e : Event) → P d → P (effectOf d e .device) → P (stepOf d e .device)
+unfolding stepOf
+step-ind P d e before after = split (variantOf (d .variant) && rangedOf d) (operandsOf e)
+  where
+    split : (s t : Bool) → P (cond s (cond t (steppedOf (effectOf d e)) (refusedOf d 4)) (refusedOf d 8) .device)
+    split true true = after
+    split true false = before
+    split false t = before

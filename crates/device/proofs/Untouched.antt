@@ -1,0 +1,160 @@
+-- What an event leaves alone. `elsewhere` and `outside`: a record at another address, or to a register outside the profile,
+-- changes nothing and is not acknowledged. `still`: only conversions and power-on move readings, live byte, fault count and
+-- latches. `same-variant`: nothing changes the variant.
+-- Assumes nothing.
+use mathlib.Core.Path.{_≡_, refl, sym, ap, _∙_}
+use mathlib.Core.Bool.{Bool, true, false, not, cond, _||_, _&&_}
+use Prim.Native.Nat.{ℕ}
+use lib.IntN.{ℤ}
+use lib.Dec.{eqb}
+use borrow.Author.Tests.{eqb-true}
+use Rattle.laws.proofs.Choices.{cond-ind, by-test, clash, or-left, or-right}
+use Rattle.registers.specs.Bits.{has}
+use Rattle.registers.specs.Page.{readableOf, writableOf, knownOf, oneShot, writePositionOf, onPosition, addressOf}
+use Rattle.registers.specs.declared.Position.{Position}
+use Rattle.registers.specs.declared.Position.the-variants.{At, Nowhere}
+use Rattle.registers.proofs.Settings.{write-writable}
+use Rattle.device.specs.declared.Device.{Device}
+use Rattle.device.specs.declared.Outcome.{Outcome}
+use Rattle.device.specs.declared.Event.{Event}
+use Rattle.device.specs.declared.Event.the-variants.{Write, Read, Send, Receive, Convert, Open, PowerOn}
+use Rattle.device.specs.declared.Asked.{Asked}
+use Rattle.device.specs.declared.Asked.the-variants.{Put, Get, Point, Respond, Sense, Restart, Nothing}
+use Rattle.device.specs.Pins.{comparatorOf}
+use Rattle.device.specs.Bus.{silentOf, answeredOf, pointedOf, maskedOf, storedOf, firedOf, putOf, quietOf, statusReadOf, afterReadOf, getOf, pointOf, respondsOf, respondOf, takesOf, convertedOf, senseOf, poweredOf, alertResponse, atOf, askedOf, doneOf}
+use Rattle.device.specs.Profile.{OnBus, AtAnother, OutsideProfile}
+use Rattle.device.specs.Step.{effectOf}
+
+-- ---- at another address
+
+pub elsewhere : (d : Device) (e : Event) → AtAnother d e → effectOf d e ≡ silentOf d
+unfolding effectOf askedOf doneOf
+elsewhere d (Write a w v) h = rw h
+elsewhere d (Read a r) h = rw h
+elsewhere d (Send a r) h = rw h
+elsewhere d (Receive a) h = rw (h .1, h .0)
+elsewhere d (Convert local high low) h = absurd h
+elsewhere d (Open local) h = absurd h
+elsewhere d PowerOn h = absurd h
+
+-- ---- outside the profile
+
+one-shot-writable : (w : ℕ) → eqb w oneShot ≡ true → writableOf w ≡ true
+unfolding writableOf
+one-shot-writable w e = ap writableOf (eqb-true w oneShot e)
+
+put-outside : (d : Device) (w v : ℕ) → writableOf w ≡ false → putOf d w v ≡ silentOf d
+unfolding putOf
+put-outside d w v h =
+    cond-ind (λ (o : Outcome). o ≡ silentOf d) (eqb w oneShot) (λ e. clash (sym h ∙ one-shot-writable w e)) (λ _. at (writePositionOf w) refl)
+  where
+    at : (p : Position) → writePositionOf w ≡ p → onPosition p (λ i. answeredOf (storedOf d w i v) 0) (silentOf d) ≡ silentOf d
+    at (At i) e = clash (sym h ∙ write-writable w i e)
+    at Nowhere e = refl
+
+get-outside : (d : Device) (r : ℕ) → readableOf r ≡ false → getOf d r ≡ silentOf d
+unfolding getOf
+get-outside d r h = rw h
+
+point-outside : (d : Device) (r : ℕ) → knownOf r ≡ false → pointOf d r ≡ silentOf d
+unfolding pointOf
+point-outside d r h = rw h
+
+-- asked of nobody, or of a device that keeps silent
+at-silent : (d : Device) (a : ℕ) (asked : Asked) → doneOf d asked ≡ silentOf d → doneOf d (atOf d a asked) ≡ silentOf d
+unfolding doneOf
+at-silent d a asked h = cond-ind (λ (q : Asked). doneOf d q ≡ silentOf d) (eqb a (addressOf (d .variant))) (λ _. h) (λ _. refl)
+
+pub outside : (d : Device) (e : Event) → OutsideProfile d e → effectOf d e ≡ silentOf d
+unfolding effectOf askedOf doneOf
+outside d (Write a w v) h = at-silent d a (Put w v) (put-outside d w v h)
+outside d (Read a r) h = at-silent d a (Get r) (get-outside d r h)
+outside d (Send a r) h = at-silent d a (Point r) (point-outside d r h)
+outside d (Receive a) h = rw (h .1) (at-silent d a (Get (d .pointer)) (get-outside d (d .pointer) (h .0)))
+outside d (Convert local high low) h = absurd h
+outside d (Open local) h = absurd h
+outside d PowerOn h = absurd h
+
+-- ---- what no bus event moves
+
+-- the same sensed state and the same variant
+pub record Same (d e : Device) : Type 0 where
+  pub sensed : e .sensed ≡ d .sensed
+  pub variant : e .variant ≡ d .variant
+
+module _ (d : Device) where
+  same : Same d d
+  same = record { sensed = refl; variant = refl }
+
+  masked-same : (e : Device) → Same d e → Same d (maskedOf e)
+  unfolding maskedOf
+  masked-same e h = record { sensed = h .sensed; variant = h .variant }
+
+  put-same : (w v : ℕ) → Same d (putOf d w v .device)
+  unfolding putOf storedOf firedOf
+  put-same w v = cond-ind (λ (o : Outcome). Same d (o .device)) (eqb w oneShot) (λ _. record { sensed = refl; variant = refl }) (λ _. at (writePositionOf w))
+    where
+      at : (p : Position) → Same d (onPosition p (λ i. answeredOf (storedOf d w i v) 0) (silentOf d) .device)
+      at (At i) = record { sensed = refl; variant = refl }
+      at Nowhere = record { sensed = refl; variant = refl }
+
+  get-same : (r : ℕ) → Same d (getOf d r .device)
+  unfolding getOf statusReadOf
+  get-same r =
+      cond-ind (λ (o : Outcome). Same d (o .device)) (readableOf r)
+      (λ _. cond-ind (Same d) (eqb r 0x02)
+      (λ _. cond-ind (Same d) (not (comparatorOf (pointedOf d r)) && has (d .status) 0x7B) (λ _. masked-same (quietOf (pointedOf d r)) (record { sensed = refl; variant = refl })) (λ _. record { sensed = refl; variant = refl }))
+      (λ _. record { sensed = refl; variant = refl }))
+      (λ _. same)
+
+  point-same : (r : ℕ) → Same d (pointOf d r .device)
+  unfolding pointOf
+  point-same r = cond-ind (λ (o : Outcome). Same d (o .device)) (knownOf r) (λ _. record { sensed = refl; variant = refl }) (λ _. same)
+
+  respond-same : Same d (respondOf d .device)
+  unfolding respondOf
+  respond-same = cond-ind (λ (o : Outcome). Same d (o .device)) (respondsOf d) (λ _. masked-same d same) (λ _. same)
+
+  at-same : (a : ℕ) (asked : Asked) → Same d (doneOf d asked .device) → Same d (doneOf d (atOf d a asked) .device)
+  unfolding doneOf
+  at-same a asked h = cond-ind (λ (q : Asked). Same d (doneOf d q .device)) (eqb a (addressOf (d .variant))) (λ _. h) (λ _. same)
+
+  bus-same : (e : Event) → OnBus e → Same d (effectOf d e .device)
+  unfolding effectOf askedOf doneOf
+  bus-same (Write a w v) h = at-same a (Put w v) (put-same w v)
+  bus-same (Read a r) h = at-same a (Get r) (get-same r)
+  bus-same (Send a r) h = at-same a (Point r) (point-same r)
+  bus-same (Receive a) h = cond-ind (λ (q : Asked). Same d (doneOf d q .device)) (eqb a alertResponse) (λ _. respond-same) (λ _. at-same a (Get (d .pointer)) (get-same (d .pointer)))
+  bus-same (Convert local high low) h = absurd h
+  bus-same (Open local) h = absurd h
+  bus-same PowerOn h = absurd h
+
+-- only conversions and power-on move readings, live byte, fault count and latches
+pub still : (d : Device) (e : Event) → OnBus e → effectOf d e .device .sensed ≡ d .sensed
+still d e h = bus-same d e h .sensed
+
+-- ---- what a conversion that is not taken moves: nothing
+
+pub untaken : (d : Device) (local : ℕ) → takesOf d ≡ false → ((high low : ℕ) → effectOf d (Convert local high low) ≡ silentOf d) × (effectOf d (Open local) ≡ silentOf d)
+unfolding effectOf askedOf doneOf senseOf
+untaken d local h = (λ high low. rw h, rw h)
+
+-- ---- the variant
+
+sense-variant : (d : Device) (local : ℕ) (remote : ℤ) (broken : Bool) → senseOf d local remote broken .device .variant ≡ d .variant
+unfolding senseOf convertedOf
+sense-variant d local remote broken = split (takesOf d)
+  where
+    split : (t : Bool) → cond t (record { device = convertedOf d local remote broken; acknowledged = false; taken = true; byte = 0 }) (silentOf d) .device .variant ≡ d .variant
+    split true = refl
+    split false = refl
+
+pub same-variant : (d : Device) (e : Event) → effectOf d e .device .variant ≡ d .variant
+unfolding effectOf askedOf doneOf poweredOf
+same-variant d (Write a w v) = bus-same d (Write a w v) tt .variant
+same-variant d (Read a r) = bus-same d (Read a r) tt .variant
+same-variant d (Send a r) = bus-same d (Send a r) tt .variant
+same-variant d (Receive a) = bus-same d (Receive a) tt .variant
+same-variant d (Convert local high low) = sense-variant d local _ false
+same-variant d (Open local) = sense-variant d local _ true
+same-variant d PowerOn = refl

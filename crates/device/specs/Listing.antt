@@ -1,0 +1,45 @@
+-- The nine records of document 01's listing, on an LM89C: each line's two answer bytes.
+-- Assumes nothing.
+use mathlib.Core.Path.{_≡_, refl}
+use mathlib.Core.List.{List, [], _∷_}
+use Prim.Native.Nat.{ℕ}
+use Rattle.temperature.specs.Temperature.{degreesOf, eighthsOf, sumOf, heldOf, clearedOf}
+use Rattle.registers.specs.Page.{readableOf, writableOf, knownOf, writePositionOf, readPositionOf, settingOf, changedOf, keptOf, powerOnOf, readOnlyOf, addressOf}
+use Rattle.conversion.specs.Conversion.{readingOf, localLimitsOf, remoteLimitsOf, outOf, anyOf, countOf, queuedOf, shownOf, liveOf, latchOf, sensedOf}
+use Rattle.device.specs.declared.Event.{Event}
+use Rattle.device.specs.declared.Event.the-variants.{Write, Read, Send, Receive, Convert, Open, PowerOn}
+use Rattle.device.specs.Pins.{comparatorOf, watchedOf, alertOf, tcritOf, pinsOf, firstOf}
+use Rattle.device.specs.Bus.{maskedOf, storedOf, firedOf, putOf, statusReadOf, measuredOf, valueOf, getOf, pointOf, respondsOf, respondOf, takesOf, convertedOf, senseOf, poweredOf, askedOf, doneOf}
+use Rattle.device.specs.Ranges.{variantOf, masksOf, rangedOf, operandsOf}
+use Rattle.device.specs.Step.{effectOf, answerOf, stepOf}
+use Rattle.device.specs.Run.{answersOf}
+
+abbrev pub records : List Event
+records =
+    Write 0x4C 0x19 0x55 ∷
+    Write 0x4C 0x0D 0x7F ∷
+    Convert 0x19 0x55 0x20 ∷
+    Read 0x4C 0x02 ∷
+    Write 0x4C 0x21 0x05 ∷
+    Convert 0x19 0x50 0x00 ∷
+    Convert 0x19 0x4F 0xE0 ∷
+    Read 0x4C 0x03 ∷
+    Write 0x4C 0x30 0x00 ∷
+    []
+
+abbrev pub printed : List ℕ
+printed =
+    0x04 ∷ 0x00 ∷
+    0x04 ∷ 0x00 ∷
+    0x0B ∷ 0x00 ∷
+    0x06 ∷ 0x02 ∷
+    0x06 ∷ 0x00 ∷
+    0x0A ∷ 0x00 ∷
+    0x08 ∷ 0x00 ∷
+    0x04 ∷ 0x80 ∷
+    0x00 ∷ 0x00 ∷
+    []
+
+pub listing : answersOf (poweredOf 1) records ≡ printed
+unfolding stepOf variantOf rangedOf masksOf operandsOf effectOf answerOf askedOf doneOf putOf storedOf firedOf getOf statusReadOf measuredOf valueOf maskedOf pointOf respondsOf respondOf takesOf convertedOf senseOf poweredOf comparatorOf watchedOf alertOf tcritOf pinsOf firstOf readingOf localLimitsOf remoteLimitsOf outOf anyOf countOf queuedOf shownOf liveOf latchOf sensedOf readableOf writableOf knownOf writePositionOf readPositionOf settingOf changedOf keptOf powerOnOf readOnlyOf addressOf degreesOf eighthsOf sumOf heldOf clearedOf
+listing = refl
