@@ -7,8 +7,7 @@ use mathlib.Core.List.{List}
 use lib.IntN.{ℤ}
 use lib.Dec.{ltb}
 use lib.Bits.{bitOr}
-use Rattle.temperature.specs.Temperature.{eighthsOf, aboveOf, belowOf, clearedOf}
-use Rattle.temperature.specs.Temperature.{readingOf as heldSumOf}
+use Rattle.temperature.specs.Temperature.{eighthsOf, heldSumOf, aboveOf, belowOf, clearedOf}
 use Rattle.registers.specs.Bits.{has, LHIGH, LLOW, RHIGH, RLOW, OPEN, RCRIT, LCRIT, faultQueue}
 use Rattle.registers.specs.Page.{settingOf}
 use Rattle.conversion.specs.declared.Sensed.{Sensed}
@@ -20,7 +19,7 @@ use Rattle.conversion.specs.declared.Out.{Out}
 unfoldable pub readingOf : List ℕ → ℕ → ℕ → ℤ
 readingOf s high low = heldSumOf high low (settingOf s 0x11) (settingOf s 0x12)
 
--- ---- P3: limits, in eighths; a T_CRIT is its byte times 8
+-- ---- P3: limits, in eighths; a T_CRIT is its two's complement byte times 8
 
 unfoldable pub localLimitsOf : List ℕ → Limits
 localLimitsOf s = record { high = eighthsOf (settingOf s 0x05) 0; low = eighthsOf (settingOf s 0x06) 0; crit = eighthsOf (settingOf s 0x20) 0 }
@@ -37,14 +36,15 @@ outOf t limits = record { high = aboveOf t (limits .high); low = belowOf t (limi
 unfoldable pub anyOf : Out → Bool
 anyOf o = o .high || o .low || o .crit
 
--- up by one, to at most 3, where a limit is passed, else 0
+-- up by one, to at most 3, where the reading is outside any of its three limits, else 0
 unfoldable pub countOf : ℕ → Bool → ℕ
 countOf n out = cond out (min 3 (n + 1)) 0
 
--- with D0 set, remote bits become live only when the count has reached 3
+-- held back by the fault queue: D0 set and the count not yet 3
 unfoldable pub queuedOf : ℕ → ℕ → Bool
 queuedOf configuration count = has configuration faultQueue && ltb count 3
 
+-- the remote bits that become live; OPEN is none of them
 unfoldable pub shownOf : Bool → Out → Out
 shownOf queued o = record { high = o .high && not queued; low = o .low && not queued; crit = o .crit && not queued }
 
@@ -54,8 +54,8 @@ abbrev pub bitOf : Bool → ℕ → ℕ
 bitOf on bit = cond on bit 0
 
 unfoldable pub liveOf : Out → Out → Bool → ℕ
-liveOf l r broken =
-    bitOr (bitOr (bitOr (bitOr (bitOr (bitOr (bitOf (l .high) LHIGH) (bitOf (l .low) LLOW)) (bitOf (r .high) RHIGH)) (bitOf (r .low) RLOW)) (bitOf broken OPEN)) (bitOf (r .crit) RCRIT)) (bitOf (l .crit) LCRIT)
+liveOf l r diodeOpen =
+    bitOr (bitOr (bitOr (bitOr (bitOr (bitOr (bitOf (l .high) LHIGH) (bitOf (l .low) LLOW)) (bitOf (r .high) RHIGH)) (bitOf (r .low) RLOW)) (bitOf diodeOpen OPEN)) (bitOf (r .crit) RCRIT)) (bitOf (l .crit) LCRIT)
 
 -- ---- P8: a latch sets when its T_CRIT bit is live, clears when the reading is strictly below limit minus hysteresis, else holds
 
@@ -76,18 +76,18 @@ remoteOutOf s remote = outOf remote (remoteLimitsOf s)
 
 -- P4: the count at this conversion, its own step included
 abbrev pub faultsOf : List ℕ → ℕ → ℤ → ℕ
-faultsOf s old remote = countOf old (anyOf (remoteOutOf s remote))
+faultsOf s oldCount remote = countOf oldCount (anyOf (remoteOutOf s remote))
 
--- the remote bits that become live
+-- the remote bits that become live at this conversion
 abbrev pub remoteShownOf : List ℕ → ℕ → ℤ → Out
-remoteShownOf s old remote = shownOf (queuedOf (settingOf s 0x03) (faultsOf s old remote)) (remoteOutOf s remote)
+remoteShownOf s oldCount remote = shownOf (queuedOf (settingOf s 0x03) (faultsOf s oldCount remote)) (remoteOutOf s remote)
 
 unfoldable pub sensedOf : List ℕ → Sensed → ℕ → ℤ → Bool → Sensed
-sensedOf s old local remote broken =
+sensedOf s old local remote diodeOpen =
     record {
       local = local;
       remote = remote;
-      live = liveOf (localOutOf s local) (remoteShownOf s (old .faults) remote) broken;
+      live = liveOf (localOutOf s local) (remoteShownOf s (old .faults) remote) diodeOpen;
       faults = faultsOf s (old .faults) remote;
       llatch = latchOf (localOutOf s local .crit) (clearedOf (localOf local) (settingOf s 0x20) (settingOf s 0x21)) (old .llatch);
       rlatch = latchOf (remoteShownOf s (old .faults) remote .crit) (clearedOf remote (settingOf s 0x19) (settingOf s 0x21)) (old .rlatch);

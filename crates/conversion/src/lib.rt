@@ -31,7 +31,7 @@ pub struct Out {
 pub fn reading(s: [u8; 14], high: u8, low: u8) -> i16
     ensures { λ r. ⌜ r ≡ readingOf s high low ⌝ }
 {
-    temperature::reading(high, low, s[registers::OFFSET], s[registers::OFFSET_PART])
+    temperature::held_sum(high, low, s[registers::OFFSET], s[registers::OFFSET_PART])
 }
 
 fn local_limits(s: [u8; 14]) -> Limits

@@ -13,15 +13,15 @@ use lib.Dec.{eqb, ltb, leb, lit<}
 use lib.Bits.{bitAnd, bitOr, or-lt, and-le-r}
 use lib.ListN.{getD, set}
 use borrow.Author.Tests.{lt-ltb, ltb-true, le-leb, eqb-true}
-use Rattle.laws.proofs.Choices.{cond-ind, and-right, or-left, or-right}
+use Rattle.laws.proofs.Choices.{cond-ind, or-left}
 use Rattle.laws.proofs.Tables.{agree}
-use Rattle.temperature.specs.Temperature.{degreesOf, eighthsOf, heldOf, openReading}
+use Rattle.temperature.specs.Temperature.{degreesOf, eighthsOf, openReading}
 use Rattle.temperature.proofs.Laws.{held-scale}
 use Rattle.registers.specs.Bits.{has}
-use Rattle.registers.specs.Page.{knownOf, readableOf, writableOf, oneShot, writePositionOf, readPositionOf, onPosition, settingOf, changedOf, keptOf, powerOnOf, readOnlyOf, addressOf, Settable, settable}
+use Rattle.registers.specs.Page.{knownOf, readableOf, writableOf, writePositionOf, readPositionOf, onPosition, settingOf, changedOf, keptOf, powerOnOf, readOnlyOf, addressOf, Settable, settable}
 use Rattle.registers.specs.declared.Position.{Position}
 use Rattle.registers.specs.declared.Position.the-variants.{At, Nowhere}
-use Rattle.registers.proofs.Settings.{configuration, change-configuration, keptAt, write-kept, write-known}
+use Rattle.registers.proofs.Settings.{configuration, change-configuration, write-kept, write-known}
 use Rattle.registers.proofs.Entries.{zero-at}
 use Rattle.conversion.specs.Conversion.{readingOf, sensedOf}
 use Rattle.conversion.proofs.Bounds.{count-bound, live-bound}
@@ -30,13 +30,13 @@ use Rattle.device.specs.declared.Outcome.{Outcome}
 use Rattle.device.specs.declared.Event.{Event}
 use Rattle.device.specs.declared.Event.the-variants.{Write, Read, Send, Receive, Convert, Open, PowerOn}
 use Rattle.device.specs.declared.Asked.{Asked}
-use Rattle.device.specs.declared.Asked.the-variants.{Put, Get, Point, Respond, Sense, Restart, Nothing}
+use Rattle.device.specs.declared.Asked.the-variants.{Put, Get, Point}
 use Rattle.device.specs.Pins.{comparatorOf}
-use Rattle.device.specs.Bus.{standbyOf, pointedOf, maskedOf, storedOf, storedIn, firedOf, putOf, quietOf, statusReadOf, afterReadOf, getOf, pointOf, respondsOf, respondOf, takesOf, convertedOf, senseOf, poweredOf, alertResponse, atOf, askedOf, doneOf}
+use Rattle.device.specs.Bus.{standbyOf, pointedOf, maskedOf, storedOf, storedIn, firedOf, putOf, statusClearedOf, statusReadOf, afterReadOf, getOf, pointOf, respondsOf, respondOf, takesOf, convertedOf, senseOf, poweredOf, alertResponse, atOf, askedOf, doneOf}
 use Rattle.device.specs.Ranges.{masksOf, rangeTests, rangedOf}
 use Rattle.device.specs.Step.{effectOf}
 use Rattle.device.proofs.Tests.{each, of-each}
-use Rattle.device.proofs.Masks.{masks-at, set-masks, and-again, onlyKept, of-masks}
+use Rattle.device.proofs.Masks.{masks-at, set-masks, and-again}
 
 -- ---- the tests by name
 
@@ -106,7 +106,7 @@ module _ {d : Device} (r : Ranged d) where
       still false true e = refl
       still false false e = refl
 
-  quiet-ranged : Ranged (quietOf d)
+  quiet-ranged : Ranged (statusClearedOf d)
   quiet-ranged =
       record { faults = r .faults; under = r .under; over = r .over; pointer = r .pointer; status = refl; live = r .live; masks = r .masks; pending = r .pending }
 
@@ -212,11 +212,11 @@ After o = Ranged (o .device)
 module _ {d : Device} (r : Ranged d) where
   put-ranged : (w v : ℕ) → After (putOf d w v)
   unfolding putOf
-  put-ranged w v = cond-ind After (eqb w oneShot) (λ _. fired-ranged r) (λ _. at (writePositionOf w) refl)
+  put-ranged w v = cond-ind After (writableOf w) (λ _. at (writePositionOf w) refl) (λ _. r)
     where
-      at : (p : Position) → writePositionOf w ≡ p → After (onPosition p (λ i. record { device = storedOf d w i v; acknowledged = true; taken = false; byte = 0 }) (record { device = d; acknowledged = false; taken = false; byte = 0 }))
+      at : (p : Position) → writePositionOf w ≡ p → Ranged (onPosition p (λ i. storedOf d w i v) (firedOf d))
       at (At i) e = stored-ranged r w i v e
-      at Nowhere e = r
+      at Nowhere e = fired-ranged r
 
   read-ranged : (reg : ℕ) → readableOf reg ≡ true → Ranged (afterReadOf (pointedOf d reg) reg)
   unfolding statusReadOf knownOf

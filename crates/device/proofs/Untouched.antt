@@ -1,27 +1,25 @@
 -- What an event leaves alone. `elsewhere` and `outside`: a record at another address, or to a register outside the profile,
--- changes nothing and is not acknowledged. `still`: only conversions and power-on move readings, live byte, fault count and
+-- changes nothing and is not acknowledged; `unanswered`: so is an alert response that P9 does not let it answer. `still`: only conversions and power-on move readings, live byte, fault count and
 -- latches. `same-variant`: nothing changes the variant.
 -- Assumes nothing.
-use mathlib.Core.Path.{_≡_, refl, sym, ap, _∙_}
-use mathlib.Core.Bool.{Bool, true, false, not, cond, _||_, _&&_}
+use mathlib.Core.Path.{_≡_, refl}
+use mathlib.Core.Bool.{Bool, true, false, not, cond, _&&_}
 use Prim.Native.Nat.{ℕ}
 use lib.IntN.{ℤ}
 use lib.Dec.{eqb}
-use borrow.Author.Tests.{eqb-true}
-use Rattle.laws.proofs.Choices.{cond-ind, by-test, clash, or-left, or-right}
+use Rattle.laws.proofs.Choices.{cond-ind}
 use Rattle.registers.specs.Bits.{has}
-use Rattle.registers.specs.Page.{readableOf, writableOf, knownOf, oneShot, writePositionOf, onPosition, addressOf}
+use Rattle.registers.specs.Page.{readableOf, writableOf, knownOf, writePositionOf, onPosition, addressOf}
 use Rattle.registers.specs.declared.Position.{Position}
 use Rattle.registers.specs.declared.Position.the-variants.{At, Nowhere}
-use Rattle.registers.proofs.Settings.{write-writable}
 use Rattle.device.specs.declared.Device.{Device}
 use Rattle.device.specs.declared.Outcome.{Outcome}
 use Rattle.device.specs.declared.Event.{Event}
 use Rattle.device.specs.declared.Event.the-variants.{Write, Read, Send, Receive, Convert, Open, PowerOn}
 use Rattle.device.specs.declared.Asked.{Asked}
-use Rattle.device.specs.declared.Asked.the-variants.{Put, Get, Point, Respond, Sense, Restart, Nothing}
+use Rattle.device.specs.declared.Asked.the-variants.{Put, Get, Point}
 use Rattle.device.specs.Pins.{comparatorOf}
-use Rattle.device.specs.Bus.{silentOf, answeredOf, pointedOf, maskedOf, storedOf, firedOf, putOf, quietOf, statusReadOf, afterReadOf, getOf, pointOf, respondsOf, respondOf, takesOf, convertedOf, senseOf, poweredOf, alertResponse, atOf, askedOf, doneOf}
+use Rattle.device.specs.Bus.{silentOf, pointedOf, maskedOf, storedOf, firedOf, putOf, statusClearedOf, statusReadOf, getOf, pointOf, respondsOf, respondOf, takesOf, convertedOf, senseOf, poweredOf, alertResponse, atOf, askedOf, doneOf}
 use Rattle.device.specs.Profile.{OnBus, AtAnother, OutsideProfile}
 use Rattle.device.specs.Step.{effectOf}
 
@@ -39,18 +37,9 @@ elsewhere d PowerOn h = absurd h
 
 -- ---- outside the profile
 
-one-shot-writable : (w : ℕ) → eqb w oneShot ≡ true → writableOf w ≡ true
-unfolding writableOf
-one-shot-writable w e = ap writableOf (eqb-true w oneShot e)
-
 put-outside : (d : Device) (w v : ℕ) → writableOf w ≡ false → putOf d w v ≡ silentOf d
 unfolding putOf
-put-outside d w v h =
-    cond-ind (λ (o : Outcome). o ≡ silentOf d) (eqb w oneShot) (λ e. clash (sym h ∙ one-shot-writable w e)) (λ _. at (writePositionOf w) refl)
-  where
-    at : (p : Position) → writePositionOf w ≡ p → onPosition p (λ i. answeredOf (storedOf d w i v) 0) (silentOf d) ≡ silentOf d
-    at (At i) e = clash (sym h ∙ write-writable w i e)
-    at Nowhere e = refl
+put-outside d w v h = rw h
 
 get-outside : (d : Device) (r : ℕ) → readableOf r ≡ false → getOf d r ≡ silentOf d
 unfolding getOf
@@ -75,6 +64,11 @@ outside d (Convert local high low) h = absurd h
 outside d (Open local) h = absurd h
 outside d PowerOn h = absurd h
 
+-- P9: an alert response that the device may not answer
+pub unanswered : (d : Device) → respondsOf d ≡ false → effectOf d (Receive alertResponse) ≡ silentOf d
+unfolding effectOf askedOf doneOf respondOf
+unanswered d h = rw h
+
 -- ---- what no bus event moves
 
 -- the same sensed state and the same variant
@@ -92,9 +86,9 @@ module _ (d : Device) where
 
   put-same : (w v : ℕ) → Same d (putOf d w v .device)
   unfolding putOf storedOf firedOf
-  put-same w v = cond-ind (λ (o : Outcome). Same d (o .device)) (eqb w oneShot) (λ _. record { sensed = refl; variant = refl }) (λ _. at (writePositionOf w))
+  put-same w v = cond-ind (λ (o : Outcome). Same d (o .device)) (writableOf w) (λ _. at (writePositionOf w)) (λ _. same)
     where
-      at : (p : Position) → Same d (onPosition p (λ i. answeredOf (storedOf d w i v) 0) (silentOf d) .device)
+      at : (p : Position) → Same d (onPosition p (λ i. storedOf d w i v) (firedOf d))
       at (At i) = record { sensed = refl; variant = refl }
       at Nowhere = record { sensed = refl; variant = refl }
 
@@ -103,7 +97,7 @@ module _ (d : Device) where
   get-same r =
       cond-ind (λ (o : Outcome). Same d (o .device)) (readableOf r)
       (λ _. cond-ind (Same d) (eqb r 0x02)
-      (λ _. cond-ind (Same d) (not (comparatorOf (pointedOf d r)) && has (d .status) 0x7B) (λ _. masked-same (quietOf (pointedOf d r)) (record { sensed = refl; variant = refl })) (λ _. record { sensed = refl; variant = refl }))
+      (λ _. cond-ind (Same d) (not (comparatorOf (pointedOf d r)) && has (d .status) 0x7B) (λ _. masked-same (statusClearedOf (pointedOf d r)) (record { sensed = refl; variant = refl })) (λ _. record { sensed = refl; variant = refl }))
       (λ _. record { sensed = refl; variant = refl }))
       (λ _. same)
 

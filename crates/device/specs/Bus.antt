@@ -4,13 +4,13 @@
 use Prim.Native.Nat.{ℕ, _+_, _*_}
 use mathlib.Core.Bool.{Bool, true, false, not, _||_, _&&_, cond}
 use mathlib.Core.List.{List}
-use lib.IntN.{ℤ, pos}
+use lib.IntN.{ℤ}
 use lib.Dec.{eqb}
 use lib.Bits.{bitAnd, bitOr}
 use lib.ListN.{getD, set}
 use Rattle.temperature.specs.Temperature.{eighthsOf, highByteOf, lowByteOf, openReading}
 use Rattle.registers.specs.Bits.{has, alerting, alertMask, standby}
-use Rattle.registers.specs.Page.{readableOf, knownOf, oneShot, writePositionOf, readPositionOf, onPosition, settingOf, changedOf, keptOf, powerOnOf, readOnlyOf, addressOf}
+use Rattle.registers.specs.Page.{readableOf, writableOf, knownOf, oneShot, writePositionOf, readPositionOf, onPosition, settingOf, changedOf, keptOf, powerOnOf, readOnlyOf, addressOf}
 use Rattle.conversion.specs.declared.Sensed.{Sensed}
 use Rattle.conversion.specs.Conversion.{readingOf, sensedOf}
 use Rattle.device.specs.declared.Device.{Device}
@@ -33,7 +33,7 @@ answeredOf d byte = record { device = d; acknowledged = true; taken = false; byt
 
 -- ---- how a device changes
 
--- pointer, pending one-shot and settings changed, the rest as it was
+-- the same device with this pointer, pending one-shot and settings
 abbrev pub setUpOf : Device → ℕ → Bool → List ℕ → Device
 setUpOf d pointer pending settings =
     record { variant = d .variant; pointer = pointer; pending = pending; status = d .status; sensed = d .sensed; settings = settings }
@@ -58,29 +58,32 @@ storedIn d w i v = set (d .settings) i (bitAnd v (keptOf w))
 unfoldable pub storedOf : Device → ℕ → ℕ → ℕ → Device
 storedOf d w i v = setUpOf d w (d .pending && standbyOf (storedIn d w i v)) (storedIn d w i v)
 
--- P11: a write to 0F in standby makes a conversion pending, and out of standby does nothing but set the pointer
+-- P11: a write to 0F, of any value, in standby makes a conversion pending, and out of standby does nothing but set the pointer
 unfoldable pub firedOf : Device → Device
 firedOf d = setUpOf d oneShot (d .pending || standbyOf (d .settings)) (d .settings)
 
--- a register outside W is not acknowledged
+-- a writable register that holds no byte is the one-shot
+abbrev pub writtenOf : Device → ℕ → ℕ → Device
+writtenOf d w v = onPosition (writePositionOf w) (λ i. storedOf d w i v) (firedOf d)
+
+-- P10: a register outside W is not acknowledged
 unfoldable pub putOf : Device → ℕ → ℕ → Outcome
-putOf d w v =
-    cond (eqb w oneShot) (answeredOf (firedOf d) 0)
-    (onPosition (writePositionOf w) (λ i. answeredOf (storedOf d w i v) 0) (silentOf d))
+putOf d w v = cond (writableOf w) (answeredOf (writtenOf d w v) 0) (silentOf d)
 
 -- ---- read byte
 
 -- status cleared
-abbrev pub quietOf : Device → Device
-quietOf d = record { variant = d .variant; pointer = d .pointer; pending = d .pending; status = 0; sensed = d .sensed; settings = d .settings }
+abbrev pub statusClearedOf : Device → Device
+statusClearedOf d = record { variant = d .variant; pointer = d .pointer; pending = d .pending; status = 0; sensed = d .sensed; settings = d .settings }
 
--- P6: a read of 02 clears status; if BF D0 is 0 and a bit of 7Bh was set, the mask bit becomes 1
+-- P6: a read of 02 clears status, whatever is still live; if BF D0 is 0 and a bit of 7Bh was set, the mask bit becomes 1
 unfoldable pub statusReadOf : Device → Device
-statusReadOf d = cond (not (comparatorOf d) && has (d .status) alerting) (maskedOf (quietOf d)) (quietOf d)
+statusReadOf d = cond (not (comparatorOf d) && has (d .status) alerting) (maskedOf (statusClearedOf d)) (statusClearedOf d)
 
--- the registers that no write sets: 00 local, 01 and 10 the two bytes of the latest remote reading (P12), 02 status, FE and FF
-unfoldable pub measuredOf : Device → ℕ → ℕ
-measuredOf d r =
+-- the registers that no write sets: 00 local, 01 and 10 the two bytes of the latest remote reading (P12: 004's lock of the low byte
+-- is not modelled), 02 status, FE and FF
+unfoldable pub readOnlyValueOf : Device → ℕ → ℕ
+readOnlyValueOf d r =
     cond (eqb r 0x00) (d .sensed .local)
     (cond (eqb r 0x01) (highByteOf (d .sensed .remote))
     (cond (eqb r 0x02) (d .status)
@@ -88,7 +91,7 @@ measuredOf d r =
     (readOnlyOf (d .variant) r))))
 
 unfoldable pub valueOf : Device → ℕ → ℕ
-valueOf d r = onPosition (readPositionOf r) (λ i. getD (d .settings) i 0) (measuredOf d r)
+valueOf d r = onPosition (readPositionOf r) (λ i. getD (d .settings) i 0) (readOnlyValueOf d r)
 
 abbrev pub afterReadOf : Device → ℕ → Device
 afterReadOf d r = cond (eqb r 0x02) (statusReadOf d) d
@@ -128,12 +131,12 @@ gatheredOf d n =
     record { variant = d .variant; pointer = d .pointer; pending = false; status = bitOr (d .status) (n .live); sensed = n; settings = d .settings }
 
 unfoldable pub convertedOf : Device → ℕ → ℤ → Bool → Device
-convertedOf d local remote broken = gatheredOf d (sensedOf (d .settings) (d .sensed) local remote broken)
+convertedOf d local remote diodeOpen = gatheredOf d (sensedOf (d .settings) (d .sensed) local remote diodeOpen)
 
 -- P11: a conversion not taken changes nothing
 unfoldable pub senseOf : Device → ℕ → ℤ → Bool → Outcome
-senseOf d local remote broken =
-    cond (takesOf d) (record { device = convertedOf d local remote broken; acknowledged = false; taken = true; byte = 0 }) (silentOf d)
+senseOf d local remote diodeOpen =
+    cond (takesOf d) (record { device = convertedOf d local remote diodeOpen; acknowledged = false; taken = true; byte = 0 }) (silentOf d)
 
 -- ---- power-on
 
@@ -158,7 +161,7 @@ poweredOf variant =
 
 -- ---- what an event asks
 
--- P10: at another address nothing
+-- P10: what is asked at the device's own address; at another, nothing
 abbrev pub atOf : Device → ℕ → Asked → Asked
 atOf d address asked = cond (eqb address (addressOf (d .variant))) asked Nothing
 
@@ -178,6 +181,6 @@ doneOf d (Put w v) = putOf d w v
 doneOf d (Get r) = getOf d r
 doneOf d (Point r) = pointOf d r
 doneOf d Respond = respondOf d
-doneOf d (Sense local remote broken) = senseOf d local remote broken
+doneOf d (Sense local remote diodeOpen) = senseOf d local remote diodeOpen
 doneOf d Restart = silentOf (poweredOf (d .variant))
 doneOf d Nothing = silentOf d

@@ -4,5 +4,6 @@ pub mod Ranges
 pub mod Step
 pub mod Profile
 pub mod Run
+pub mod Refusals
 pub mod Listing
 pub mod BothSides

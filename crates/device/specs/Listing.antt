@@ -1,18 +1,17 @@
--- The nine records of document 01's listing, on an LM89C: each line's two answer bytes.
+-- The nine records of document 01's listing, on an LM89C: each gets code 0 and its line's two answer bytes.
 -- Assumes nothing.
 use mathlib.Core.Path.{_≡_, refl}
 use mathlib.Core.List.{List, [], _∷_}
-use Prim.Native.Nat.{ℕ}
 use Rattle.temperature.specs.Temperature.{degreesOf, eighthsOf, sumOf, heldOf, clearedOf}
 use Rattle.registers.specs.Page.{readableOf, writableOf, knownOf, writePositionOf, readPositionOf, settingOf, changedOf, keptOf, powerOnOf, readOnlyOf, addressOf}
 use Rattle.conversion.specs.Conversion.{readingOf, localLimitsOf, remoteLimitsOf, outOf, anyOf, countOf, queuedOf, shownOf, liveOf, latchOf, sensedOf}
 use Rattle.device.specs.declared.Event.{Event}
-use Rattle.device.specs.declared.Event.the-variants.{Write, Read, Send, Receive, Convert, Open, PowerOn}
+use Rattle.device.specs.declared.Event.the-variants.{Write, Read, Convert}
 use Rattle.device.specs.Pins.{comparatorOf, watchedOf, alertOf, tcritOf, pinsOf, firstOf}
-use Rattle.device.specs.Bus.{maskedOf, storedOf, firedOf, putOf, statusReadOf, measuredOf, valueOf, getOf, pointOf, respondsOf, respondOf, takesOf, convertedOf, senseOf, poweredOf, askedOf, doneOf}
+use Rattle.device.specs.Bus.{maskedOf, storedOf, firedOf, putOf, statusReadOf, readOnlyValueOf, valueOf, getOf, pointOf, respondsOf, respondOf, takesOf, convertedOf, senseOf, poweredOf, askedOf, doneOf}
 use Rattle.device.specs.Ranges.{variantOf, masksOf, rangedOf, operandsOf}
 use Rattle.device.specs.Step.{effectOf, answerOf, stepOf}
-use Rattle.device.specs.Run.{answersOf}
+use Rattle.device.specs.Run.{Reply, ok, repliesOf}
 
 abbrev pub records : List Event
 records =
@@ -27,19 +26,19 @@ records =
     Write 0x4C 0x30 0x00 ∷
     []
 
-abbrev pub printed : List ℕ
+abbrev pub printed : List Reply
 printed =
-    0x04 ∷ 0x00 ∷
-    0x04 ∷ 0x00 ∷
-    0x0B ∷ 0x00 ∷
-    0x06 ∷ 0x02 ∷
-    0x06 ∷ 0x00 ∷
-    0x0A ∷ 0x00 ∷
-    0x08 ∷ 0x00 ∷
-    0x04 ∷ 0x80 ∷
-    0x00 ∷ 0x00 ∷
+    ok 0x04 0x00 ∷
+    ok 0x04 0x00 ∷
+    ok 0x0B 0x00 ∷
+    ok 0x06 0x02 ∷
+    ok 0x06 0x00 ∷
+    ok 0x0A 0x00 ∷
+    ok 0x08 0x00 ∷
+    ok 0x04 0x80 ∷
+    ok 0x00 0x00 ∷
     []
 
-pub listing : answersOf (poweredOf 1) records ≡ printed
-unfolding stepOf variantOf rangedOf masksOf operandsOf effectOf answerOf askedOf doneOf putOf storedOf firedOf getOf statusReadOf measuredOf valueOf maskedOf pointOf respondsOf respondOf takesOf convertedOf senseOf poweredOf comparatorOf watchedOf alertOf tcritOf pinsOf firstOf readingOf localLimitsOf remoteLimitsOf outOf anyOf countOf queuedOf shownOf liveOf latchOf sensedOf readableOf writableOf knownOf writePositionOf readPositionOf settingOf changedOf keptOf powerOnOf readOnlyOf addressOf degreesOf eighthsOf sumOf heldOf clearedOf
+pub listing : repliesOf (poweredOf 1) records ≡ printed
+unfolding stepOf variantOf rangedOf masksOf operandsOf effectOf answerOf askedOf doneOf putOf storedOf firedOf getOf statusReadOf readOnlyValueOf valueOf maskedOf pointOf respondsOf respondOf takesOf convertedOf senseOf poweredOf comparatorOf watchedOf alertOf tcritOf pinsOf firstOf readingOf localLimitsOf remoteLimitsOf outOf anyOf countOf queuedOf shownOf liveOf latchOf sensedOf readableOf writableOf knownOf writePositionOf readPositionOf settingOf changedOf keptOf powerOnOf readOnlyOf addressOf degreesOf eighthsOf sumOf heldOf clearedOf
 listing = refl

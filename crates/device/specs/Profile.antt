@@ -1,4 +1,4 @@
--- Events that reach a device and events that do not.
+-- Kinds of events: on the bus or not, at another address, or to a register that is not readable or not writable.
 -- Assumes nothing.
 use mathlib.Core.Path.{_≡_}
 use mathlib.Core.Bool.{false}
@@ -39,7 +39,7 @@ AtAnother d (Convert local high low) = ⊥
 AtAnother d (Open local) = ⊥
 AtAnother d PowerOn = ⊥
 
--- P10: a write outside W, a read outside R, a send outside both, a receive while the pointer is outside R
+-- at the right address or a wrong one: P10, a write outside W, a read outside R, a send outside both, a receive while the pointer is outside R
 abbrev pub OutsideProfile : Device → Event → Type 0
 OutsideProfile d (Write a w v) = writableOf w ≡ false
 OutsideProfile d (Read a r) = readableOf r ≡ false

@@ -1,4 +1,5 @@
--- A state's ranges, of the device's part, and an event's operands. No other test is made.
+-- A state's ranges, of the device's part, and an event's operands. No other test is made. The variant is a test apart, because a
+-- capture's reader makes it only once two header bytes are taken.
 -- Assumes nothing.
 use Prim.Native.Nat.{ℕ, _%_}
 use mathlib.Core.Bool.{Bool, true, not, _||_, _&&_}
@@ -13,10 +14,10 @@ use Rattle.device.specs.declared.Event.{Event}
 use Rattle.device.specs.declared.Event.the-variants.{Write, Read, Send, Receive, Convert, Open, PowerOn}
 use Rattle.device.specs.Bus.{standbyOf}
 
-abbrev pub all : List Bool → Bool
-all [] = true
-all (t ∷ []) = t
-all (t ∷ u ∷ ts) = t && all (u ∷ ts)
+abbrev pub allTrue : List Bool → Bool
+allTrue [] = true
+allTrue (t ∷ []) = t
+allTrue (t ∷ u ∷ ts) = t && allTrue (u ∷ ts)
 
 -- variant 1 to 3
 unfoldable pub variantOf : ℕ → Bool
@@ -27,7 +28,7 @@ abbrev pub keepsOf : List ℕ → Settable → Bool
 keepsOf settings s = eqb (bitAnd (settingOf settings (s .read)) (s .kept)) (settingOf settings (s .read))
 
 unfoldable pub masksOf : List ℕ → Bool
-masksOf settings = all (map (keepsOf settings) settable)
+masksOf settings = allTrue (map (keepsOf settings) settable)
 
 abbrev pub rangeTests : Device → List Bool
 rangeTests d =
@@ -48,9 +49,10 @@ rangeTests d =
     []
 
 unfoldable pub rangedOf : Device → Bool
-rangedOf d = all (rangeTests d)
+rangedOf d = allTrue (rangeTests d)
 
--- ---- operands: addresses are at most 7Fh, a remote low byte is a multiple of 32
+-- ---- operands: addresses are at most 7Fh, a remote low byte is a multiple of 32. An event has no place for a record's other operands,
+-- which are 0
 
 unfoldable pub operandsOf : Event → Bool
 operandsOf (Write address w v) = leb address 0x7F

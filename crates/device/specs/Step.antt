@@ -1,7 +1,7 @@
 -- One event: `effectOf` is what it does to any device, `stepOf` is ranges, then operands, then the effect.
 -- Assumes nothing.
 use Prim.Native.Nat.{ℕ}
-use mathlib.Core.Bool.{Bool, _&&_, cond}
+use mathlib.Core.Bool.{_&&_, cond}
 use Rattle.device.specs.declared.Device.{Device}
 use Rattle.device.specs.declared.Outcome.{Outcome}
 use Rattle.device.specs.declared.Stepped.{Stepped}
@@ -14,7 +14,7 @@ use Rattle.device.specs.Ranges.{variantOf, rangedOf, operandsOf}
 unfoldable pub effectOf : Device → Event → Outcome
 effectOf d e = doneOf d (askedOf d e)
 
--- the two answer bytes of an outcome; pins are as they stand after the event
+-- the first answer byte of an outcome, with the pins as they stand after the event; the second is the byte read
 unfoldable pub answerOf : Outcome → ℕ
 answerOf o = firstOf (pinsOf (o .device)) (o .acknowledged) (o .taken)
 

@@ -1,7 +1,7 @@
 // P6 and P9 to P12: the bus, conversions and power-on.
 ghost use mathlib.Core.Path.{_≡_};
 ghost use Prim.Native.Nat.{_<_};
-ghost use Rattle.device.specs.Bus.{silentOf, answeredOf, pointedOf, maskedOf, storedOf, firedOf, putOf, statusReadOf, measuredOf, valueOf, getOf, pointOf, respondsOf, respondOf, takesOf, convertedOf, senseOf, poweredOf, atOf, askedOf};
+ghost use Rattle.device.specs.Bus.{silentOf, answeredOf, pointedOf, maskedOf, storedOf, firedOf, putOf, statusReadOf, readOnlyValueOf, valueOf, getOf, pointOf, respondsOf, respondOf, takesOf, convertedOf, senseOf, poweredOf, atOf, askedOf};
 use super::Asked;
 use super::Device;
 use super::Event;
@@ -77,13 +77,13 @@ fn fired(d: Device) -> Device
 pub(crate) fn put(d: Device, reg: u8, v: u8) -> Outcome
     ensures { λ r. ⌜ r ≡ putOf d reg v ⌝ }
 {
-    if reg == registers::ONE_SHOT {
-        return answered(fired(d), 0);
+    if !registers::writable(reg) {
+        return silent(d);
     }
     let p = registers::write_position(reg);
     match p {
         Position::At(i) => answered(stored(d, reg, i as usize, v), 0),
-        Position::Nowhere => silent(d),
+        Position::Nowhere => answered(fired(d), 0),
     }
 }
 
@@ -99,8 +99,8 @@ fn status_read(d: Device) -> Device
     }
 }
 
-fn measured(d: Device, reg: u8) -> u8
-    ensures { λ r. ⌜ r ≡ measuredOf d reg ⌝ }
+fn read_only_value(d: Device, reg: u8) -> u8
+    ensures { λ r. ⌜ r ≡ readOnlyValueOf d reg ⌝ }
 {
     let s = d.sensed;
     match reg {
@@ -118,7 +118,7 @@ fn value(d: Device, reg: u8) -> u8
     let p = registers::read_position(reg);
     match p {
         Position::At(i) => d.settings[i as usize],
-        Position::Nowhere => measured(d, reg),
+        Position::Nowhere => read_only_value(d, reg),
     }
 }
 

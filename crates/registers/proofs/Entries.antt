@@ -9,7 +9,7 @@ use borrow.Author.Tests.{lt-ltb, le-ltb}
 use Rattle.laws.proofs.Tables.{agree}
 use Rattle.registers.specs.declared.Position.{Position}
 use Rattle.registers.specs.declared.Position.the-variants.{At, Nowhere}
-use Rattle.registers.specs.Page.{Default, all, each, column, page, readOnlyIn, readableOf, writableOf, writePositionOf, readPositionOf, readOnlyOf}
+use Rattle.registers.specs.Page.{Default, everyVariant, each, column, page, readOnlyIn, readableOf, writableOf, writePositionOf, readPositionOf, readOnlyOf}
 
 -- ---- what an entry says
 
@@ -56,7 +56,7 @@ module _ {n m : ℕ} {p : Position} (e : n ≡ m) (place : positionOf m ≡ p) w
 
 -- ---- power-on
 
-pub column-all : (v b : ℕ) → 1 ≤ v → v ≤ 3 → column v (all b) ≡ b
+pub column-all : (v b : ℕ) → 1 ≤ v → v ≤ 3 → column v (everyVariant b) ≡ b
 column-all zero b lo hi = absurd (omega arith)
 column-all (suc zero) b lo hi = refl
 column-all (suc (suc zero)) b lo hi = refl
@@ -66,7 +66,7 @@ column-all (suc (suc (suc (suc n)))) b lo hi = absurd (omega arith)
 pub column-none : (v : ℕ) (d : Default) → eqb v 1 ≡ false → eqb v 2 ≡ false → eqb v 3 ≡ false → column v d ≡ 0
 column-none v d a b c = rw (a, b, c)
 
-pub column-zero : (v : ℕ) → column v (all 0) ≡ 0
+pub column-zero : (v : ℕ) → column v (everyVariant 0) ≡ 0
 column-zero v = split (eqb v 1) (eqb v 2) (eqb v 3)
   where
     split : (a b c : Bool) → _≡_ {A = ℕ} (cond a 0 (cond b 0 (cond c 0 0))) 0
@@ -76,17 +76,17 @@ column-zero v = split (eqb v 1) (eqb v 2) (eqb v 3)
     split false false false = refl
 
 -- a row of zeros is 0 in every column; the third argument is `refl`
-pub zero-at : (v r : ℕ) → readOnlyIn r page ≡ all 0 → readOnlyOf v r ≡ 0
+pub zero-at : (v r : ℕ) → readOnlyIn r page ≡ everyVariant 0 → readOnlyOf v r ≡ 0
 unfolding readOnlyOf
 zero-at v r e = ap (column v) e ∙ column-zero v
 
 -- of the read-only registers only FE and FF start at another byte than 0
-pub read-only-rows : (r : ℕ) → r < 256 → readOnlyIn r page ≡ cond (eqb r 0xFE) (all 0x01) (cond (eqb r 0xFF) (each 0x31 0x34 0x35) (all 0))
-read-only-rows = agree (λ r. readOnlyIn r page) (λ r. cond (eqb r 0xFE) (all 0x01) (cond (eqb r 0xFF) (each 0x31 0x34 0x35) (all 0))) 256 refl
+pub read-only-rows : (r : ℕ) → r < 256 → readOnlyIn r page ≡ cond (eqb r 0xFE) (everyVariant 0x01) (cond (eqb r 0xFF) (each 0x31 0x34 0x35) (everyVariant 0))
+read-only-rows = agree (λ r. readOnlyIn r page) (λ r. cond (eqb r 0xFE) (everyVariant 0x01) (cond (eqb r 0xFF) (each 0x31 0x34 0x35) (everyVariant 0))) 256 refl
 
 pub read-only-else : (v r : ℕ) → r < 256 → eqb r 0xFE ≡ false → eqb r 0xFF ≡ false → readOnlyOf v r ≡ 0
 read-only-else v r h a b =
     zero-at v r (read-only-rows r h ∙ choice (eqb r 0xFE) (eqb r 0xFF) a b)
   where
-    choice : (s t : Bool) → s ≡ false → t ≡ false → cond s (all 0x01) (cond t (each 0x31 0x34 0x35) (all 0)) ≡ all 0
+    choice : (s t : Bool) → s ≡ false → t ≡ false → cond s (everyVariant 0x01) (cond t (each 0x31 0x34 0x35) (everyVariant 0)) ≡ everyVariant 0
     choice s t p q = rw (p, q)

@@ -53,7 +53,7 @@ localMask = 0x04
 abbrev pub faultQueue : ℕ
 faultQueue = 0x01
 
--- ---- BF: D0 set makes ALERT a comparator
+-- ---- BF: D0 set makes ALERT a comparator, which the live byte alone pulls (P7)
 
 abbrev pub comparator : ℕ
 comparator = 0x01

@@ -1,8 +1,9 @@
 -- Registers: source document 004's register table as one page of rows, and what follows from it: which registers are readable
--- (R) and writable (W), the fourteen settable bytes with the bits they keep, and the power-on bytes of each variant.
+-- (R) and writable (W), the fourteen settable bytes with the bits they keep, and the power-on bytes of each variant. The kept bits
+-- are document 01's; 004's test registers B0h to BEh are left out, since document 01 has them neither in R nor in W.
 -- Assumes nothing.
 use Prim.Native.Nat.{ℕ, suc}
-use mathlib.Core.Bool.{Bool, true, false, _||_, cond}
+use mathlib.Core.Bool.{Bool, false, _||_, cond}
 use mathlib.Core.List.{List, [], _∷_, map}
 use lib.Dec.{eqb}
 use lib.ListN.{getD, set}
@@ -20,8 +21,8 @@ pub record Default : Type 0 where
 abbrev pub each : ℕ → ℕ → ℕ → Default
 each one two three = record { one = one; two = two; three = three }
 
-abbrev pub all : ℕ → Default
-all byte = each byte byte byte
+abbrev pub everyVariant : ℕ → Default
+everyVariant byte = each byte byte byte
 
 -- a settable register: where it is read, where it is written, the bits it keeps, its power-on byte
 pub record Settable : Type 0 where
@@ -42,45 +43,45 @@ both read write kept default = readWrite (record { read = read; write = write; k
 abbrev pub page : List Row
 page =
     -- local temperature
-    readOnly 0x00 (all 0) ∷
+    readOnly 0x00 (everyVariant 0) ∷
     -- remote temperature, high byte
-    readOnly 0x01 (all 0) ∷
+    readOnly 0x01 (everyVariant 0) ∷
     -- status
-    readOnly 0x02 (all 0) ∷
+    readOnly 0x02 (everyVariant 0) ∷
     -- configuration
-    both 0x03 0x09 0xD5 (all 0) ∷
-    -- conversion rate
-    both 0x04 0x0A 0xFF (all 0x08) ∷
+    both 0x03 0x09 0xD5 (everyVariant 0) ∷
+    -- conversion rate; P12: kept, without effect
+    both 0x04 0x0A 0xFF (everyVariant 0x08) ∷
     -- local high limit
-    both 0x05 0x0B 0xFF (all 70) ∷
+    both 0x05 0x0B 0xFF (everyVariant 70) ∷
     -- local low limit
-    both 0x06 0x0C 0xFF (all 0) ∷
+    both 0x06 0x0C 0xFF (everyVariant 0) ∷
     -- remote high limit, high byte
-    both 0x07 0x0D 0xFF (all 70) ∷
+    both 0x07 0x0D 0xFF (everyVariant 70) ∷
     -- remote low limit, high byte
-    both 0x08 0x0E 0xFF (all 0) ∷
+    both 0x08 0x0E 0xFF (everyVariant 0) ∷
     -- one-shot
     writeOnly 0x0F ∷
     -- remote temperature, low byte
-    readOnly 0x10 (all 0) ∷
+    readOnly 0x10 (everyVariant 0) ∷
     -- remote offset, high byte
-    both 0x11 0x11 0xFF (all 0) ∷
+    both 0x11 0x11 0xFF (everyVariant 0) ∷
     -- remote offset, low byte
-    both 0x12 0x12 0xE0 (all 0) ∷
+    both 0x12 0x12 0xE0 (everyVariant 0) ∷
     -- remote high limit, low byte
-    both 0x13 0x13 0xE0 (all 0) ∷
+    both 0x13 0x13 0xE0 (everyVariant 0) ∷
     -- remote low limit, low byte
-    both 0x14 0x14 0xE0 (all 0) ∷
+    both 0x14 0x14 0xE0 (everyVariant 0) ∷
     -- remote T_CRIT
-    both 0x19 0x19 0xFF (all 110) ∷
+    both 0x19 0x19 0xFF (everyVariant 110) ∷
     -- local T_CRIT
     both 0x20 0x20 0xFF (each 85 85 105) ∷
     -- T_CRIT hysteresis
-    both 0x21 0x21 0x1F (all 10) ∷
-    -- filter and alert
-    both 0xBF 0xBF 0x07 (all 0) ∷
+    both 0x21 0x21 0x1F (everyVariant 10) ∷
+    -- filter and alert; P12: the filter bits are kept, without effect
+    both 0xBF 0xBF 0x07 (everyVariant 0) ∷
     -- manufacturer
-    readOnly 0xFE (all 0x01) ∷
+    readOnly 0xFE (everyVariant 0x01) ∷
     -- die revision
     readOnly 0xFF (each 0x31 0x34 0x35) ∷
     []
@@ -157,7 +158,7 @@ module _ {A : Type 0} where
 unfoldable pub settingOf : List ℕ → ℕ → ℕ
 settingOf bytes r = onPosition (readPositionOf r) (λ i. getD bytes i 0) 0
 
--- the fourteen bytes, that one made b
+-- the fourteen bytes with the byte of the register that is read at r replaced by b
 unfoldable pub changedOf : List ℕ → ℕ → ℕ → List ℕ
 changedOf bytes r b = onPosition (readPositionOf r) (λ i. set bytes i b) bytes
 
@@ -171,7 +172,7 @@ keptOf r = keptIn r settable
 
 -- ---- power-on
 
--- a variant's column; none but 1, 2 and 3 has one
+-- a variant's column; 0 for any number but 1, 2 and 3
 abbrev pub column : ℕ → Default → ℕ
 column variant d = cond (eqb variant 1) (d .one) (cond (eqb variant 2) (d .two) (cond (eqb variant 3) (d .three) 0))
 
@@ -180,7 +181,7 @@ unfoldable pub powerOnOf : ℕ → List ℕ
 powerOnOf variant = map (λ (s : Settable). column variant (s .default)) settable
 
 abbrev pub readOnlyIn : ℕ → List Row → Default
-readOnlyIn r [] = all 0
+readOnlyIn r [] = everyVariant 0
 readOnlyIn r (readOnly x d ∷ rows) = cond (eqb r x) d (readOnlyIn r rows)
 readOnlyIn r (writeOnly w ∷ rows) = readOnlyIn r rows
 readOnlyIn r (readWrite s ∷ rows) = readOnlyIn r rows
@@ -191,6 +192,6 @@ readOnlyOf variant r = column variant (readOnlyIn r page)
 
 -- ---- variants
 
--- 1 LM89C at 4C, 2 LM89-1C and 3 LM89-1D at 4D
+-- 1 LM89C at 4C, 2 LM89-1C and 3 LM89-1D at 4D; a step refuses any other variant before it asks
 unfoldable pub addressOf : ℕ → ℕ
 addressOf variant = cond (eqb variant 1) 0x4C 0x4D

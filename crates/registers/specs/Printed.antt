@@ -1,10 +1,9 @@
 -- What document 01 prints of the registers, as theorems about the page: R, W, the kept bits and the power-on tables.
 -- Assumes nothing.
 use mathlib.Core.Path.{_≡_, refl}
-use mathlib.Core.Bool.{Bool, true, false}
-use mathlib.Core.List.{List, [], _∷_, map}
+use mathlib.Core.Bool.{true, false}
+use mathlib.Core.List.{[], _∷_, map}
 use Prim.Native.Nat.{ℕ}
-use Rattle.registers.specs.declared.Position.{Position}
 use Rattle.registers.specs.declared.Position.the-variants.{At, Nowhere}
 use Rattle.registers.specs.Page.{R, W, settable, Settable, readableOf, writableOf, knownOf, writePositionOf, readPositionOf, keptOf, powerOnOf, readOnlyOf, addressOf}
 

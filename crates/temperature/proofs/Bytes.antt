@@ -5,7 +5,7 @@
 use mathlib.Core.Path.{_≡_, refl}
 use Prim.Native.Nat.{ℕ, _+_, _*_, _/_, _%_, _<_}
 use native.Mathlib.Omega.{arith}
-use lib.IntN.{ℤ, pos, _-ℤ_}
+use lib.IntN.{pos, _-ℤ_}
 use Rattle.temperature.specs.Temperature.{degreesOf, eighthsOf, highByteOf, lowByteOf}
 use Rattle.laws.proofs.Tables.{agree}
 

@@ -34,14 +34,14 @@ lowByteOf t = wordOf t % 8 * 32
 
 -- sample plus offset, not yet held
 unfoldable pub sumOf : ℕ → ℕ → ℕ → ℕ → ℤ
-sumOf high low offset part = eighthsOf high low +ℤ eighthsOf offset part
+sumOf high low offsetHigh offsetLow = eighthsOf high low +ℤ eighthsOf offsetHigh offsetLow
 
 -- held to -1024..1023
 unfoldable pub heldOf : ℤ → ℤ
 heldOf sum = cond (ltZ (pos 1023) sum) (pos 1023) (cond (ltZ sum (negℤ (pos 1024))) (negℤ (pos 1024)) sum)
 
-abbrev pub readingOf : ℕ → ℕ → ℕ → ℕ → ℤ
-readingOf high low offset part = heldOf (sumOf high low offset part)
+abbrev pub heldSumOf : ℕ → ℕ → ℕ → ℕ → ℤ
+heldSumOf high low offsetHigh offsetLow = heldOf (sumOf high low offsetHigh offsetLow)
 
 -- an open diode gives 127 degrees with no offset
 abbrev pub openReading : ℤ
@@ -59,6 +59,6 @@ belowOf t limit = ltZ t limit
 
 -- ---- P8: where a latch clears
 
--- strictly below T_CRIT minus hysteresis, both bytes in degrees; the difference goes below -128 degrees with no wrap
+-- strictly below T_CRIT minus hysteresis, bytes in degrees, hysteresis unsigned; the difference goes below -128 with no wrap
 unfoldable pub clearedOf : ℤ → ℕ → ℕ → Bool
 clearedOf t crit hysteresis = belowOf t (eighthsOf crit 0 -ℤ pos (hysteresis * 8))

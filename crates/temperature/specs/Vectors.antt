@@ -1,7 +1,8 @@
--- Worked temperatures: the rows of source document 004, section 9.3.5, and document 01's own numbers, as theorems about the definitions.
+-- Worked temperatures, as theorems about the definitions: the rows of source document 004, section 9.3.5, the row +110 of 003,
+-- and document 01's own numbers.
 -- Assumes nothing.
 use mathlib.Core.Path.{_≡_, refl}
-use mathlib.Core.Bool.{Bool, true, false}
+use mathlib.Core.Bool.{true, false}
 use mathlib.Core.List.{List, [], _∷_, map}
 use Prim.Native.Nat.{ℕ}
 use lib.IntN.{ℤ, pos, negℤ}
@@ -15,10 +16,10 @@ pub record Row : Type 0 where
 abbrev row : ℕ → ℕ → ℤ → Row
 row high low eighths = record { high = high; low = low; eighths = eighths }
 
--- 003 prints 7100h for +110; the binary beside it is 6E00h, and arithmetic decides
 abbrev pub rows : List Row
 rows =
     row 0x7D 0x00 (pos 1000) ∷
+    -- 003 prints 7100h for +110; the binary beside it is 6E00h, and arithmetic decides
     row 0x6E 0x00 (pos 880) ∷
     row 0x19 0x00 (pos 200) ∷
     row 0x01 0x00 (pos 8) ∷
@@ -28,6 +29,7 @@ rows =
     row 0xFF 0x00 (negℤ (pos 8)) ∷
     row 0xE7 0x00 (negℤ (pos 200)) ∷
     row 0xC9 0x00 (negℤ (pos 440)) ∷
+    -- the ends of the scale: eleven bits end at -128, where 003 and 004 print -128.875
     row 0x80 0x00 (negℤ (pos 1024)) ∷
     row 0x7F 0xE0 (pos 1023) ∷
     []

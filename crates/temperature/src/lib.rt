@@ -1,6 +1,6 @@
 // Temperatures (P1 to P3): two's complement bytes, signed eighths of a degree, and their comparisons.
 ghost use mathlib.Core.Path.{_≡_};
-ghost use Rattle.temperature.specs.Temperature.{degreesOf, eighthsOf, sumOf, heldOf, readingOf, aboveOf, belowOf, clearedOf, wordOf, highByteOf, lowByteOf};
+ghost use Rattle.temperature.specs.Temperature.{degreesOf, eighthsOf, heldOf, heldSumOf, aboveOf, belowOf, clearedOf, wordOf, highByteOf, lowByteOf};
 
 // P1: a byte as whole degrees.
 pub fn degrees(b: u8) -> i16
@@ -28,9 +28,9 @@ fn hold(sum: i16) -> i16
     }
 }
 
-// P2: a sample plus the offset with its low byte `part`, held to the scale.
-pub fn reading(high: u8, low: u8, offset: u8, part: u8) -> i16
-    ensures { λ r. ⌜ r ≡ readingOf high low offset part ⌝ }
+// P2: a sample plus an offset, whose low byte is `part`, held to the scale.
+pub fn held_sum(high: u8, low: u8, offset: u8, part: u8) -> i16
+    ensures { λ r. ⌜ r ≡ heldSumOf high low offset part ⌝ }
 {
     hold(eighths(high, low) + eighths(offset, part))
 }

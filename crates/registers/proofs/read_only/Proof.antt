@@ -3,7 +3,7 @@ use mathlib.Core.Path.{sym}
 use Prim.Native.Nat.{_≤_}
 use native.Mathlib.Omega.{arith}
 use borrow.Author.Tests.{ne-eqb}
-use Rattle.registers.specs.Page.{readOnlyOf, all}
+use Rattle.registers.specs.Page.{readOnlyOf, everyVariant}
 use Rattle.registers.proofs.Entries.{column-all, column-none, read-only-else}
 use Rattle.registers.proofs.read_only.Statement.{statement}
 use Rattle.registers.proofs.read_only.Tie as tie
@@ -20,13 +20,13 @@ returns-2 : tie.Need-returns-2
 unfolding readOnlyOf
 returns-2 c =
     let v = c .before .before .args .variant in
-    rw (c .before .match .keys1, column-none v (all 1) (ne-eqb v 1 (λ e. omega arith)) (ne-eqb v 2 (λ e. omega arith)) (ne-eqb v 3 (λ e. omega arith)))
+    rw (c .before .match .keys1, column-none v (everyVariant 1) (ne-eqb v 1 (λ e. omega arith)) (ne-eqb v 2 (λ e. omega arith)) (ne-eqb v 3 (λ e. omega arith)))
 
 returns-3 : tie.Need-returns-3
 unfolding readOnlyOf
 returns-3 c =
     let v = c .before .before .before .args .variant in
-    rw (c .before .before .match .keys1, column-none v (all 1) (ne-eqb v 1 (λ e. omega arith)) (ne-eqb v 2 (λ e. omega arith)) (ne-eqb v 3 (λ e. omega arith)))
+    rw (c .before .before .match .keys1, column-none v (everyVariant 1) (ne-eqb v 1 (λ e. omega arith)) (ne-eqb v 2 (λ e. omega arith)) (ne-eqb v 3 (λ e. omega arith)))
 
 returns-4 : tie.Need-returns-4
 unfolding readOnlyOf

@@ -1,5 +1,4 @@
 -- Assumes nothing.
-use mathlib.Core.Path.{_∙_}
 use borrow.Author.Needs.{needs}
 use Rattle.laws.proofs.Tables.{entry}
 use Rattle.registers.specs.Page.{readableOf, readPositionOf}

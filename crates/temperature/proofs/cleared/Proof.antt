@@ -8,7 +8,7 @@ use mir.Syntax.{w8}
 use mir.Val.{Fits}
 use mir.Facts.{toZ-ofZ}
 use Rattle.temperature.specs.Temperature.{clearedOf}
-use Rattle.temperature.proofs.Laws.{Within, back, same, fits16, eighths-within, within-8, within-less, within-pos}
+use Rattle.temperature.proofs.Laws.{Within, back, fits16, eighths-within, within-8, within-less, within-pos}
 use Rattle.temperature.proofs.cleared.Statement.{statement}
 use Rattle.temperature.proofs.cleared.Tie as tie
 

@@ -3,8 +3,8 @@ use borrow.Author.Needs.{needs}
 use mir.Facts.{toZ-ofZ}
 use Rattle.temperature.specs.Temperature.{sumOf}
 use Rattle.temperature.proofs.Laws.{same, fits16, within-add, eighths-within}
-use Rattle.temperature.proofs.reading.Statement.{statement}
-use Rattle.temperature.proofs.reading.Tie as tie
+use Rattle.temperature.proofs.held_sum.Statement.{statement}
+use Rattle.temperature.proofs.held_sum.Tie as tie
 
 eighths-requires : tie.Need-eighths-requires
 eighths-requires c κs = search needs
@@ -29,6 +29,6 @@ returns c =
     let a = b .before in
     cc (same (a .eighths .result) (a .eighths .ok), same (b .eighths2 .result) (b .eighths2 .ok), same (c .hold .result) (c .hold .ok), toZ-ofZ (add-hold b))
 
-pub reading-spec : {M : Type 1} → statement M
-reading-spec =
+pub held-sum-spec : {M : Type 1} → statement M
+held-sum-spec =
     tie.close (tie.spec eighths-requires eighths-requires-2 add-hold hold-requires returns)
