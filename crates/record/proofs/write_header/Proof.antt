@@ -1,0 +1,47 @@
+-- Assumes nothing.
+use borrow.Author.Needs.{needs}
+use mathlib.Core.Path.{sym}
+use borrow.Author.Tests.{not-true, not-false}
+use mathlib.Core.Path.{sym, _∙_}
+use Rattle.record.proofs.Writings.{header-refused, header-full, header-written}
+use Rattle.record.proofs.write_header.Statement.{statement}
+use Rattle.record.proofs.write_header.Tie as tie
+
+variant-requires : tie.Need-variant-requires
+variant-requires c κs = search needs
+
+returns : tie.Need-returns
+returns c = header-refused _ _ _ (sym (c .before .variant .ensures) ∙ not-true (c .before .variant .result) (c .if1 .taken))
+
+returns-2 : tie.Need-returns-2
+returns-2 c = header-full _ _ _ (sym (c .before .before .variant .ensures) ∙ not-false (c .before .before .variant .result) (c .before .if1 .left)) (c .if2 .taken)
+
+header-requires : tie.Need-header-requires
+header-requires c κs = search needs
+
+slice-aggregate-put : tie.Need-slice-aggregate-put
+slice-aggregate-put c = search needs
+
+put-requires : tie.Need-put-requires
+put-requires c κs = search needs
+
+same-length : tie.Need-same-length
+same-length c = search needs
+
+returns-3 : tie.Need-returns-3
+returns-3 c =
+    let a = c .before .before .before .before .before .before .before .before in
+    header-written _ _ _ (sym (a .variant .ensures) ∙ not-false (a .variant .result) (c .before .before .before .before .before .before .before .if1 .left)) (c .before .before .before .before .before .before .if2 .left) (rw (c .before .before .before .before .before .header .ensures) at (c .before .before .put .ensures))
+
+pub write-header-spec : {M : Type 1} → statement M
+write-header-spec =
+    tie.close
+    (tie.spec
+    variant-requires
+    returns
+    returns-2
+    header-requires
+    slice-aggregate-put
+    put-requires
+    same-length
+    returns-3)

@@ -1,0 +1,40 @@
+-- Writers into a lent buffer: what is written, and what is refused with nothing written.
+-- Assumes nothing.
+use Prim.Native.Nat.{ℕ, _/_, _%_}
+use mathlib.Core.Path.{_≡_}
+use mathlib.Core.Bool.{cond}
+use mathlib.Core.List.{List, [], _∷_, _++_}
+use lib.Dec.{leb}
+use lib.ListN.{length, drop}
+use Rattle.device.specs.declared.Event.{Event}
+use Rattle.device.specs.Ranges.{variantOf, operandsOf}
+use Rattle.record.specs.Record.{bytesOf}
+
+-- a code, and the bytes that go to the front of the buffer
+pub record Writing : Type 0 where
+  pub code : ℕ
+  pub bytes : List ℕ
+
+abbrev pub writes : List ℕ → Writing
+writes bytes = record { code = 0; bytes = bytes }
+
+abbrev pub refuses : ℕ → Writing
+refuses code = record { code = code; bytes = [] }
+
+-- an event: 4 for an operand outside the table, then 7 for fewer than four bytes of room
+unfoldable pub writeEventOf : Event → ℕ → Writing
+writeEventOf e room = cond (operandsOf e) (cond (leb 4 room) (writes (bytesOf e)) (refuses 7)) (refuses 4)
+
+-- a capture's header: device count 1, variant, record count in four bytes, highest first
+unfoldable pub headerOf : ℕ → ℕ → List ℕ
+headerOf variant count =
+    1 ∷ variant ∷ count / 0x1000000 % 0x100 ∷ count / 0x10000 % 0x100 ∷ count / 0x100 % 0x100 ∷ count % 0x100 ∷ []
+
+-- a header: 2 for a variant other than 1 to 3, then 7 for fewer than six bytes of room
+unfoldable pub writeHeaderOf : ℕ → ℕ → ℕ → Writing
+writeHeaderOf variant count room = cond (variantOf variant) (cond (leb 6 room) (writes (headerOf variant count)) (refuses 7)) (refuses 2)
+
+-- what a writer promises: its code, and a buffer that begins with the bytes and is as it was behind them
+pub record Wrote (w : Writing) (code : ℕ) (entry exit : List ℕ) : Type 0 where
+  pub told : code ≡ w .code
+  pub buffer : exit ≡ w .bytes ++ drop (length (w .bytes)) entry

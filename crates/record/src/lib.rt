@@ -1,0 +1,121 @@
+// Records: four bytes to an event or a refusal, and back; the header's six bytes.
+ghost use mathlib.Core.Path.{_≡_};
+ghost use mathlib.Core.List.{_++_};
+ghost use Prim.Native.Nat.{_≤_};
+ghost use lib.ListN.{length, drop};
+ghost use Rattle.record.specs.Record.{decodeOf, codeOf, admitOf, bytesOf};
+ghost use Rattle.record.specs.Writer.{headerOf, writeEventOf, writeHeaderOf, Wrote};
+use device::Event;
+
+// A record is either one event or a refusal: of its kind, or of an operand.
+pub enum Record {
+    Valid(Event),
+    UnknownKind,
+    BadOperand,
+}
+
+// Code 0, 3 or 4.
+pub fn code(r: Record) -> u8
+    ensures { λ n. ⌜ n ≡ codeOf r ⌝ }
+{
+    match r {
+        Record::Valid(_) => 0,
+        Record::UnknownKind => 3,
+        Record::BadOperand => 4,
+    }
+}
+
+fn admit(good: bool, e: Event) -> Record
+    ensures { λ r. ⌜ r ≡ admitOf good e ⌝ }
+{
+    if good {
+        Record::Valid(e)
+    } else {
+        Record::BadOperand
+    }
+}
+
+pub fn decode(kind: u8, a: u8, b: u8, c: u8) -> Record
+    ensures { λ r. ⌜ r ≡ decodeOf kind a b c ⌝ }
+{
+    match kind {
+        1 => admit(a <= 0x7F, Event::Write(a, b, c)),
+        2 => admit((a <= 0x7F) & (c == 0), Event::Read(a, b)),
+        3 => admit((a <= 0x7F) & (c == 0), Event::Send(a, b)),
+        4 => admit((a <= 0x7F) & ((b == 0) & (c == 0)), Event::Receive(a)),
+        5 => admit(c % 32 == 0, Event::Convert(a, b, c)),
+        6 => admit((b == 0) & (c == 0), Event::Open(a)),
+        7 => admit((a == 0) & ((b == 0) & (c == 0)), Event::PowerOn),
+        _ => Record::UnknownKind,
+    }
+}
+
+// The event's record, whatever its operands.
+pub fn bytes(e: Event) -> [u8; 4]
+    ensures { λ r. ⌜ r ≡ bytesOf e ⌝ }
+{
+    match e {
+        Event::Write(a, b, c) => [1, a, b, c],
+        Event::Read(a, b) => [2, a, b, 0],
+        Event::Send(a, b) => [3, a, b, 0],
+        Event::Receive(a) => [4, a, 0, 0],
+        Event::Convert(a, b, c) => [5, a, b, c],
+        Event::Open(a) => [6, a, 0, 0],
+        Event::PowerOn => [7, 0, 0, 0],
+    }
+}
+
+// The bytes to the front of the room, the rest of it as it was.
+fn put(room: &mut [u8], bytes: &[u8])
+    requires { ⌜ length (now bytes) ≤ length (now room) ⌝ }
+    ensures { λ _. ⌜ now (room .exit) ≡ now (bytes .entry) ++ drop (length (now (bytes .entry))) (now (room .entry)) ⌝ }
+{
+    let mut i = 0;
+    while i < bytes.len() {
+        room[i] = bytes[i];
+        i = i + 1;
+    }
+}
+
+// The event's four bytes to the front of the room: 4 for an operand outside the table, then 7 for fewer than four bytes.
+pub fn write_event(e: Event, room: &mut [u8]) -> u8
+    ensures { λ r. ⌜ Wrote (writeEventOf e (length (now (room .entry)))) r (now (room .entry)) (now (room .exit)) ⌝ }
+{
+    if !device::ranges::operands(e) {
+        return 4;
+    }
+    if room.len() < 4 {
+        return 7;
+    }
+    let q = bytes(e);
+    put(room, &q);
+    0
+}
+
+fn header(variant: u8, count: u32) -> [u8; 6]
+    ensures { λ r. ⌜ r ≡ headerOf variant count ⌝ }
+{
+    [
+        1,
+        variant,
+        (count / 0x1000000 % 0x100) as u8,
+        (count / 0x10000 % 0x100) as u8,
+        (count / 0x100 % 0x100) as u8,
+        (count % 0x100) as u8,
+    ]
+}
+
+// A capture's header to the front of the room: 2 for a variant other than 1 to 3, then 7 for fewer than six bytes.
+pub fn write_header(variant: u8, count: u32, room: &mut [u8]) -> u8
+    ensures { λ r. ⌜ Wrote (writeHeaderOf variant count (length (now (room .entry)))) r (now (room .entry)) (now (room .exit)) ⌝ }
+{
+    if !device::ranges::variant(variant) {
+        return 2;
+    }
+    if room.len() < 6 {
+        return 7;
+    }
+    let q = header(variant, count);
+    put(room, &q);
+    0
+}
