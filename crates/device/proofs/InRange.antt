@@ -260,3 +260,7 @@ module _ {d : Device} (r : Ranged d) where
 pub kept : (d : Device) (e : Event) → rangedOf d ≡ true → rangedOf (effectOf d e .device) ≡ true
 unfolding effectOf
 kept d e h = of-named (effectOf d e .device) (event-ranged (named d h) e)
+
+pub powered-variant : (v : ℕ) → poweredOf v .variant ≡ v
+unfolding poweredOf
+powered-variant v = refl

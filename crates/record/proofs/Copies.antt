@@ -28,10 +28,10 @@ module _ {entry bytes room : List ℕ} {i : ℕ} (c : Copied entry bytes room i)
         within = omega arith;
         fits = c .fits;
         so-far =
-          rw (add-one i)
-          (ap (λ (l : List ℕ). set l i (getD bytes i 0)) (c .so-far)
-          ∙ ap (λ (k : ℕ). set (paste entry 0 bytes i) k (getD bytes i 0)) (sym (zero-add i))
-          ∙ paste-suc entry 0 bytes i 0 (omega (arith, c .fits)) h);
+            rw (add-one i)
+            (ap (λ (l : List ℕ). set l i (getD bytes i 0)) (c .so-far)
+            ∙ ap (λ (k : ℕ). set (paste entry 0 bytes i) k (getD bytes i 0)) (sym (zero-add i))
+            ∙ paste-suc entry 0 bytes i 0 (omega (arith, c .fits)) h);
       }
 
   pub all : length bytes ≤ i → room ≡ bytes ++ drop (length bytes) entry

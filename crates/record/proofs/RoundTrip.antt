@@ -15,7 +15,7 @@ use Rattle.device.specs.declared.Event.the-variants.{Write, Read, Send, Receive
 use Rattle.device.specs.Ranges.{allTrue, operandsOf}
 use Rattle.device.proofs.Tests.{Each, each}
 use Rattle.record.specs.declared.Record.{Record}
-use Rattle.record.specs.declared.Record.the-variants.{Valid, UnknownKind, BadOperand}
+use Rattle.record.specs.declared.Record.the-variants.{Valid}
 use Rattle.record.specs.Record.{decodeOf, admitOf, goodOf, bytesOf, codeOf}
 
 -- four bytes of a list, decoded

@@ -8,17 +8,18 @@ use Rattle.device.specs.declared.Event.{Event}
 use Rattle.device.specs.declared.Event.the-variants.{Write, Read, Send, Receive, Convert, Open, PowerOn}
 use Rattle.device.specs.Ranges.{allTrue, operandsOf}
 use Rattle.record.specs.declared.Record.{Record}
-use Rattle.record.specs.declared.Record.the-variants.{Valid, UnknownKind, BadOperand}
+use Rattle.record.specs.declared.Record.the-variants.{Valid, Refused}
+use Rattle.record.specs.declared.Refusal.the-variants.{Kind, Operand}
 
--- the codes of the three cases: 3 for a kind that is not 01 to 07, 4 for an operand that breaks the table
+-- the codes of the cases: 3 for a kind that is not 01 to 07, 4 for an operand that breaks the table
 unfoldable pub codeOf : Record → ℕ
 codeOf (Valid e) = 0
-codeOf UnknownKind = 3
-codeOf BadOperand = 4
+codeOf (Refused Kind) = 3
+codeOf (Refused Operand) = 4
 
 -- the event, if its operands are good
 abbrev pub admitOf : Bool → Event → Record
-admitOf good e = cond good (Valid e) BadOperand
+admitOf good e = cond good (Valid e) (Refused Operand)
 
 -- the operands that an event has are in the table, and the others are 0
 abbrev pub goodOf : Event → List ℕ → Bool
@@ -34,7 +35,7 @@ decodeOf kind a b c =
     (cond (eqb kind 0x05) (admitOf (goodOf (Convert a b c) []) (Convert a b c))
     (cond (eqb kind 0x06) (admitOf (goodOf (Open a) (b ∷ c ∷ [])) (Open a))
     (cond (eqb kind 0x07) (admitOf (goodOf PowerOn (a ∷ b ∷ c ∷ [])) PowerOn)
-    UnknownKind))))))
+    (Refused Kind)))))))
 
 -- the other way
 unfoldable pub bytesOf : Event → List ℕ

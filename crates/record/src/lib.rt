@@ -7,11 +7,16 @@ ghost use Rattle.record.specs.Record.{decodeOf, codeOf, admitOf, bytesOf
 ghost use Rattle.record.specs.Writer.{headerOf, writeEventOf, writeHeaderOf, Wrote};
 use device::Event;
 
-// A record is either one event or a refusal: of its kind, or of an operand.
+// Why a record is refused.
+pub enum Refusal {
+    Kind,
+    Operand,
+}
+
+// A record is either one event or a refusal.
 pub enum Record {
     Valid(Event),
-    UnknownKind,
-    BadOperand,
+    Refused(Refusal),
 }
 
 // Code 0, 3 or 4.
@@ -20,8 +25,10 @@ pub fn code(r: Record) -> u8
 {
     match r {
         Record::Valid(_) => 0,
-        Record::UnknownKind => 3,
-        Record::BadOperand => 4,
+        Record::Refused(why) => match why {
+            Refusal::Kind => 3,
+            Refusal::Operand => 4,
+        },
     }
 }
 
@@ -31,7 +38,7 @@ fn admit(good: bool, e: Event) -> Record
     if good {
         Record::Valid(e)
     } else {
-        Record::BadOperand
+        Record::Refused(Refusal::Operand)
     }
 }
 
@@ -46,7 +53,7 @@ pub fn decode(kind: u8, a: u8, b: u8, c: u8) -> Record
         5 => admit(c % 32 == 0, Event::Convert(a, b, c)),
         6 => admit((b == 0) & (c == 0), Event::Open(a)),
         7 => admit((a == 0) & ((b == 0) & (c == 0)), Event::PowerOn),
-        _ => Record::UnknownKind,
+        _ => Record::Refused(Refusal::Kind),
     }
 }
 

@@ -1,0 +1,119 @@
+-- The schedule of a part ends: a call that follows a 7 with room for two bytes writes a pair and consumes a byte, so that the unread rest is shorter.
+-- Assumes nothing.
+use Prim.Native.Nat.{ℕ, zero, suc, _+_, _-_, _≤_, _<_}
+use mathlib.Core.Path.{_≡_, refl, ap, sym, _∙_}
+use mathlib.Core.List.{List, [], _∷_, _++_}
+use mathlib.Core.Bool.{Bool, true, false, cond}
+use native.Mathlib.Omega.{arith}
+use native.Mathlib.Nat.{zero-add}
+use lib.ListN.{length, take, drop, length-append, length-drop, replicate, length-replicate}
+use lib.Dec.{ltb, leb, eqb}
+use borrow.Author.Tests.{leb-true, eqb-true, eqb-false}
+use Rattle.capture.specs.declared.Reader.{Reader}
+use Rattle.capture.specs.declared.Turn.{Turn}
+use Rattle.capture.specs.declared.Fed.{Fed}
+use Rattle.capture.specs.Reader.{Out, stopOf, refuseOf, joinOf, turnOf, pairOf, feedOf, callOf, rangesOf, Meets}
+use Rattle.capture.specs.Schedule.{seen, after, Part, Parts, joined, Bytes}
+use Rattle.capture.specs.Schedule.Part.{last, again}
+use Rattle.capture.specs.Schedule.Parts.{one, more}
+use Rattle.capture.proofs.Cuts.{part-run, bytes-left, bytes-right, bytes-drop}
+use Rattle.laws.proofs.Choices.{cond-ind, by-test}
+use Rattle.capture.proofs.Outcomes.{feed-stop, feed-full, feed-on}
+use Rattle.capture.proofs.InRange.{ranges, turn-ranges}
+use Rattle.capture.proofs.Run.{cases, drop-one, feed-ranges, run-ranges}
+
+-- what a call that gives 7 stands before: a byte that completes a valid record
+pub record Waiting (s : Reader) (xs : List ℕ) : Type 0 where
+  pub byte : ℕ
+  pub rest : List ℕ
+  pub there : xs ≡ byte ∷ rest
+  pub free : turnOf s byte .reader .held ≡ 0
+  pub pair : 1 ≤ length (pairOf (turnOf s byte))
+
+not-seven : (s : Reader) → rangesOf s ≡ true → s .held ≡ 7 → ⊥
+not-seven s h e = omega (arith, leb-true (s .held) 5 (ranges s h .held))
+
+pub waiting : (s : Reader) (xs : List ℕ) (room : ℕ) → Bytes xs → rangesOf s ≡ true → feedOf s xs room .code ≡ 7
+    → Waiting (feedOf s xs room .reader) (drop (feedOf s xs room .consumed) xs)
+unfolding feedOf
+waiting s [] room k h q = absurd (not-seven s h q)
+waiting s (b ∷ xs) room k h q = cases _ s b room
+    (λ n. absurd (not-seven (turnOf s b .reader) (turn-ranges s b (k .0) h) (rw (feed-stop s b xs room n) at q)))
+    (λ z l.
+    let f = feedOf (turnOf s b .reader) xs (room - length (pairOf (turnOf s b))) in
+    rw (feed-on s b xs room z l, drop-one b xs (f .consumed))
+    (waiting (turnOf s b .reader) xs (room - length (pairOf (turnOf s b))) (k .1) (turn-ranges s b (k .0) h) (rw (feed-on s b xs room z l) at q)))
+    (λ z l. rw (feed-full s b xs room z l) (record { byte = b; rest = xs; there = refl; free = z; pair = omega arith }))
+
+pair-two : (t : Turn) → length (pairOf t) ≤ 2
+pair-two t = cond-ind (λ (l : List ℕ). length l ≤ 2) (t .pair) (λ _. omega arith) (λ _. omega arith)
+
+-- the call after a 7: a pair at least, and a byte at least
+pub retry : (s : Reader) (xs : List ℕ) (room : ℕ) → 2 ≤ room → Waiting s xs → (1 ≤ feedOf s xs room .consumed) × (1 ≤ length (feedOf s xs room .answers))
+retry s xs room l w =
+    let e = feed-on s (w .byte) (w .rest) room (w .free) (omega (arith, pair-two (turnOf s (w .byte)))) in
+    rw (w .there, e) (omega arith, simp length-append (omega (arith, w .pair)))
+
+-- a result and a buffer that meet an outcome: there is one for every outcome
+abbrev resultOf : Out → Fed
+resultOf o = record { code = o .code; consumed = o .consumed; written = length (o .answers); reader = o .reader }
+
+abbrev bufferOf : Out → List ℕ → List ℕ
+bufferOf o entry = o .answers ++ drop (length (o .answers)) entry
+
+met : (o : Out) (entry : List ℕ) → Meets o (resultOf o) entry (bufferOf o entry)
+met o entry = record { code = refl; consumed = refl; written = refl; reader = refl; buffer = refl }
+
+feed-met : (s : Reader) (xs entry : List ℕ) → rangesOf s ≡ true
+    → Meets (callOf s xs (length entry)) (resultOf (feedOf s xs (length entry))) entry (bufferOf (feedOf s xs (length entry)) entry)
+feed-met s xs entry h = simp h (met (feedOf s xs (length entry)) entry)
+
+-- from a 7 on: `fuel` bytes or fewer are unread
+go : (fuel : ℕ) (lent : ℕ → List ℕ) → ((i : ℕ) → 2 ≤ length (lent i)) → (s : Reader) (xs : List ℕ) → Bytes xs → rangesOf s ≡ true → Waiting s xs → length xs ≤ fuel
+    → (o : Out) × Part 2 s xs o
+go zero lent l s xs k h w f = absurd (omega (arith, ap length (w .there)))
+go (suc fuel) lent l s xs k h w f =
+    by-test (eqb (feedOf s xs (length (lent 0)) .code) 7)
+    (λ e.
+    let q = eqb-true _ _ e in
+    let c = feedOf s xs (length (lent 0)) in
+    let r = go fuel (λ i. lent (suc i)) (λ i. l (suc i)) (c .reader) (drop (c .consumed) xs) (bytes-drop (c .consumed) xs k)
+    (feed-ranges s xs (length (lent 0)) k h) (waiting s xs (length (lent 0)) k h q) (simp length-drop (omega (arith, retry s xs (length (lent 0)) (l 0) w .0))) in
+    (_, again (l 0) (feed-met s xs (lent 0) h) q (r .1)))
+    (λ e. (_, last (l 0) (feed-met s xs (lent 0) h) (eqb-false _ _ e)))
+
+-- whatever buffers are lent, the first of any length and the others of two or more, feeding a part comes to an end
+pub ends : (lent : ℕ → List ℕ) → ((i : ℕ) → 2 ≤ length (lent (suc i))) → (s : Reader) (xs : List ℕ) → Bytes xs → rangesOf s ≡ true → (o : Out) × Part 0 s xs o
+ends lent l s xs k h =
+    by-test (eqb (feedOf s xs (length (lent 0)) .code) 7)
+    (λ e.
+    let q = eqb-true _ _ e in
+    let c = feedOf s xs (length (lent 0)) in
+    let r = go (length (drop (c .consumed) xs)) (λ i. lent (suc i)) l (c .reader) (drop (c .consumed) xs) (bytes-drop (c .consumed) xs k)
+    (feed-ranges s xs (length (lent 0)) k h) (waiting s xs (length (lent 0)) k h q) (omega arith) in
+    (_, again (omega arith) (feed-met s xs (lent 0) h) q (r .1)))
+    (λ e. (_, last (omega arith) (feed-met s xs (lent 0) h) (eqb-false _ _ e)))
+
+-- and so does feeding parts: for every cut and all buffers lent there is a schedule
+pub all-end : (lent : ℕ → ℕ → List ℕ) → ((j i : ℕ) → 2 ≤ length (lent j (suc i))) → (s : Reader) (xs : List ℕ) (ps : List (List ℕ)) → Bytes (joined (xs ∷ ps)) → rangesOf s ≡ true
+    → (o : Out) × Parts s (xs ∷ ps) o
+all-end lent l s xs [] k h = let r = ends (lent 0) (l 0) s xs (bytes-left xs [] k) h in (r .0, one (r .1))
+all-end lent l s xs (ys ∷ ps) k h =
+    let b = bytes-left xs (joined (ys ∷ ps)) k in
+    let r = ends (lent 0) (l 0) s xs b h in
+    let q = all-end (λ j. lent (suc j)) (λ j. l (suc j)) (r .0 .reader) ys ps (bytes-right xs (joined (ys ∷ ps)) k) (rw (part-run (r .1) b h) (run-ranges s xs b h)) in
+    (_, more (r .1) (q .1))
+
+-- every call's code is one of the table
+pub feed-code : (s : Reader) (xs : List ℕ) (room : ℕ) → Bytes xs → rangesOf s ≡ true → feedOf s xs room .code ≤ 7
+unfolding feedOf
+feed-code s [] room k h = omega (arith, leb-true (s .held) 5 (ranges s h .held))
+feed-code s (b ∷ xs) room k h =
+    let t = turn-ranges s b (k .0) h in
+    cases _ s b room
+    (λ n. rw (feed-stop s b xs room n) (omega (arith, leb-true (turnOf s b .reader .held) 5 (ranges (turnOf s b .reader) t .held))))
+    (λ z l. rw (feed-on s b xs room z l) (feed-code (turnOf s b .reader) xs (room - length (pairOf (turnOf s b))) (k .1) t))
+    (λ z l. rw (feed-full s b xs room z l) (omega arith))
+
+pub call-code : (s : Reader) (xs : List ℕ) (room : ℕ) → Bytes xs → callOf s xs room .code ≤ 8
+call-code s xs room k = cond-ind (λ (o : Out). o .code ≤ 8) (rangesOf s) (λ h. omega (arith, feed-code s xs room k h)) (λ _. omega arith)

@@ -1,0 +1,128 @@
+-- The loop of `feed`, as mathematics: what holds at each turn, and what each way out gives.
+-- Assumes nothing.
+use Prim.Native.Nat.{ℕ, suc, _+_, _-_, _≤_, _<_}
+use mathlib.Core.Path.{_≡_, refl, ap, sym, _∙_}
+use mathlib.Core.List.{List, [], _∷_, _++_, append-nil, append-assoc}
+use mathlib.Core.Bool.{Bool, true, false, cond}
+use native.Mathlib.Omega.{arith}
+use native.Mathlib.Numerals.{add-one}
+use native.Mathlib.Nat.{add-zero, sub-zero, zero-add, sub-add-eq}
+use lib.ListN.{length, getD, set, take, drop, take-append-drop, length-append, length-drop, drop-of-length-le}
+use lib.Seq.{drop-cons, length-take-le, drop-drop, drop-at, take-append-add, take-all}
+use lib.Dec.{ltb, leb, eqb}
+use borrow.Rule.Slice.PartMut.{putMid}
+use borrow.Author.Tests.{eq-eqb, ne-eqb, le-leb, lt-leb}
+use Rattle.capture.specs.declared.Reader.{Reader}
+use Rattle.capture.specs.declared.Turn.{Turn}
+use Rattle.capture.specs.declared.Fed.{Fed}
+use Rattle.capture.proofs.Outcomes.{join-join, feed-stop, feed-full, feed-on}
+use Rattle.capture.specs.Reader.{rangesOf, turnOf, pairOf, feedOf, callOf, Out, stopOf, refuseOf, joinOf, Meets}
+
+-- what is known at the loop's head: the call's outcome is what has been done, and then that of the rest
+pub record Going (s₀ : Reader) (input entry answers : List ℕ) (s : Reader) (at written : ℕ) : Type 0 where
+  pub ok : rangesOf s ≡ true
+  pub within : at ≤ length input
+  pub room : written ≤ length entry
+  pub long : length answers ≡ length entry
+  pub rest : drop written answers ≡ drop written entry
+  pub same : feedOf s₀ input (length entry) ≡ joinOf at (take written answers) (feedOf s (drop at input) (length entry - written))
+
+pub start : (s : Reader) (input entry : List ℕ) → rangesOf s ≡ true → Going s input entry entry s 0 0
+start s input entry h = record {
+  ok = h;
+  within = omega arith;
+  room = omega arith;
+  long = refl;
+  rest = refl;
+  same = simp (zero-add, sub-zero);
+}
+
+front : (l : List ℕ) (x y : ℕ) (m : List ℕ) {n : ℕ} → length l ≡ n → take (n + 2) (l ++ (x ∷ y ∷ m)) ≡ l ++ (x ∷ y ∷ [])
+front l x y m e = rw (← e) (take-append-add l (x ∷ y ∷ m) 2)
+
+-- a way out after `at` bytes and `written` answer bytes, where the rest of the call gives an outcome with none of either
+leave : (o : Out) (entry answers : List ℕ) (at written code : ℕ) (s : Reader) → written ≤ length entry → length answers ≡ length entry
+    → drop written answers ≡ drop written entry → o ≡ joinOf at (take written answers) (refuseOf s code)
+    → Meets o (record { code = code; consumed = at; written = written; reader = s }) entry answers
+leave o entry answers at written code s w l d e =
+    let n : length (take written answers) ≡ written = length-take-le written answers (omega arith) in
+    record {
+      code = rw e;
+      consumed = rw e (simp add-zero);
+      written = rw e (simp (append-nil, n));
+      reader = rw e;
+      buffer = rw e (simp (append-nil, n, ← d, take-append-drop));
+    }
+
+module _ {s₀ : Reader} {input entry answers : List ℕ} {s : Reader} {at written : ℕ} (g : Going s₀ input entry answers s at written) where
+  out : (code : ℕ) (s′ : Reader) → feedOf s (drop at input) (length entry - written) ≡ refuseOf s′ code
+      → Meets (feedOf s₀ input (length entry)) (record { code = code; consumed = at; written = written; reader = s′ }) entry answers
+  out code s′ e = leave _ entry answers at written code s′ (g .room) (g .long) (g .rest) (g .same ∙ ap (joinOf at (take written answers)) e)
+
+  pub finished : length input ≤ at → Meets (feedOf s₀ input (length entry)) (record { code = s .held; consumed = at; written = written; reader = s }) entry answers
+  unfolding feedOf
+  finished h = out (s .held) s (rw (drop-of-length-le input h))
+
+  module _ (h : at < length input) {t : Turn} (turn : t ≡ turnOf s (getD input at 0)) where
+    next : drop at input ≡ getD input at 0 ∷ drop (at + 1) input
+    next = rw add-one (drop-cons input at 0 h)
+
+    pub refused : (t .reader .held ≡ 0 → ⊥)
+        → Meets (feedOf s₀ input (length entry)) (record { code = t .reader .held; consumed = at; written = written; reader = t .reader }) entry answers
+    unfolding feedOf
+    refused n = out (t .reader .held) (t .reader) (rw next (simp (← turn, ne-eqb _ _ n)))
+
+    pub full : t .reader .held ≡ 0 → t .pair ≡ true → length answers - written < 2
+        → Meets (feedOf s₀ input (length entry)) (record { code = 7; consumed = at; written = written; reader = s }) entry answers
+    unfolding feedOf
+    full z p n = out 7 s (rw next (simp (← turn, z, p, lt-leb 2 (length entry - written) (omega (arith, g .long)))))
+
+    -- a turn that is taken: the outcome so far, with the pair behind it
+    taken : t .reader .held ≡ 0 → length (pairOf t) ≤ length entry - written
+        → feedOf s₀ input (length entry) ≡ joinOf (at + 1) (take written answers ++ pairOf t) (feedOf (t .reader) (drop (at + 1) input) (length entry - written - length (pairOf t)))
+    taken z l =
+        g .same ∙ rw (next, turn) (ap (joinOf at (take written answers)) (feed-on s (getD input at 0) (drop (at + 1) input) (length entry - written) (rw turn at z) (rw turn at l)) ∙ join-join at 1 (take written answers) (pairOf (turnOf s (getD input at 0))) (feedOf (turnOf s (getD input at 0) .reader) (drop (at + 1) input) (length entry - written - length (pairOf (turnOf s (getD input at 0))))))
+
+    pub silent : rangesOf (t .reader) ≡ true → t .reader .held ≡ 0 → t .pair ≡ false → Going s₀ input entry answers (t .reader) (at + 1) written
+    silent k z p = record {
+      ok = k;
+      within = omega arith;
+      room = g .room;
+      long = g .long;
+      rest = g .rest;
+      same = simp (p, append-nil, sub-zero) at (taken z (simp p (omega arith)));
+    }
+
+    pub paired : {after : List ℕ} → rangesOf (t .reader) ≡ true → t .reader .held ≡ 0 → t .pair ≡ true → 2 ≤ length answers - written
+        → after ≡ take written answers ++ (t .first ∷ t .second ∷ drop 2 (drop written answers)) → Going s₀ input entry after (t .reader) (at + 1) (written + 2)
+    paired {after} k z p n e =
+        let w : length (take written answers) ≡ written = length-take-le written answers (omega (arith, g .long, g .room)) in
+        let f : take (written + 2) after ≡ take written answers ++ (t .first ∷ t .second ∷ []) = rw e (front (take written answers) (t .first) (t .second) (drop 2 (drop written answers)) w) in
+        record {
+          ok = k;
+          within = omega arith;
+          room = omega (arith, g .long);
+          long = rw e (simp (length-append, length-drop, w) (omega (arith, g .long)));
+          rest = rw e (simp (← drop-drop, drop-at, g .rest));
+          same = rw (f, sub-add-eq) (simp p at (taken z (simp p (omega (arith, g .long)))));
+        }
+
+-- a list whose end from n on was lent, and came back with x and y at its front
+pub stored : (l last : List ℕ) (n x y : ℕ) → last ≡ x ∷ y ∷ drop 2 (take (length l - n) (drop n l)) → putMid n (length l - n) l last ≡ take n l ++ (x ∷ y ∷ drop 2 (drop n l))
+stored l last n x y e =
+    let a : take (length l - n) (drop n l) ≡ drop n l = take-all (length l - n) (drop n l) (simp length-drop (omega arith)) in
+    let b : drop (length l - n) (drop n l) ≡ [] = drop-of-length-le (drop n l) {i = length l - n} (simp length-drop (omega arith)) in
+    simp (e, a, b) (ap (λ (m : List ℕ). take n l ++ (x ∷ y ∷ m)) (append-nil (drop 2 (drop n l))))
+
+-- at a state in its ranges the call is the feed; at another it is 8 and changes nothing
+pub called : (s : Reader) (input entry : List ℕ) {r : Fed} {exit : List ℕ} → rangesOf s ≡ true → Meets (feedOf s input (length entry)) r entry exit → Meets (callOf s input (length entry)) r entry exit
+called s input entry h m = simp h m
+
+pub outside : (s : Reader) (input entry : List ℕ) → rangesOf s ≡ false → Meets (callOf s input (length entry)) (record { code = 8; consumed = 0; written = 0; reader = s }) entry entry
+outside s input entry h = simp h (record { code = refl; consumed = refl; written = refl; reader = refl; buffer = refl })
+
+-- two stores
+pub two : (l : List ℕ) (x y : ℕ) → 2 ≤ length l → set (set l 0 x) 1 y ≡ x ∷ y ∷ drop 2 l
+two [] x y h = absurd (omega arith)
+two (a ∷ []) x y h = absurd (omega arith)
+two (a ∷ b ∷ l) x y h = refl

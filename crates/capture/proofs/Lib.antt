@@ -1,0 +1,9 @@
+pub mod Sensors
+pub mod Outcomes
+pub mod InRange
+pub mod Feeds
+pub mod Run
+pub mod Sections
+pub mod Cuts
+pub mod Ends
+pub mod Counts

@@ -1,0 +1,4 @@
+pub mod Sensor
+pub mod Reader
+pub mod Whole
+pub mod Schedule

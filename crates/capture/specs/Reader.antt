@@ -1,0 +1,173 @@
+-- Codes of the reader: the state and its ranges, what one byte does, what a call and asking to finish give.
+-- Assumes nothing.
+use Prim.Native.Nat.{ℕ, _+_, _-_, _*_, _^_, min}
+use mathlib.Core.Path.{_≡_}
+use mathlib.Core.List.{List, [], _∷_, _++_}
+use mathlib.Core.Bool.{Bool, true, false, cond, _&&_, _||_}
+use lib.ListN.{length, getD, set, drop}
+use lib.Dec.{ltb, leb, eqb}
+use Rattle.device.specs.Ranges.{allTrue, variantOf}
+use Rattle.record.specs.declared.Record.{Record}
+use Rattle.record.specs.declared.Record.the-variants.{Valid, Refused}
+use Rattle.record.specs.Record.{decodeOf, codeOf}
+use Rattle.capture.specs.declared.Reader.{Reader}
+use Rattle.capture.specs.declared.Turn.{Turn}
+use Rattle.capture.specs.declared.Fed.{Fed}
+use Rattle.capture.specs.Sensor.{Sensor, Answered, zeroSensor, sensorRanges, sensorPowered, sensorEffect, headerLength}
+
+-- ---- the state
+
+abbrev pub noBytes : List ℕ
+noBytes = 0 ∷ 0 ∷ 0 ∷ []
+
+-- a fresh state is all zeros
+abbrev pub freshOf : Reader
+freshOf = record { head = 0; count = 0; done = 0; carried = 0; bytes = noBytes; held = 0; device = zeroSensor }
+
+-- the same state, holding a lasting code
+abbrev pub holdOf : Reader → ℕ → Reader
+holdOf s code = record { head = s .head; count = s .count; done = s .done; carried = s .carried; bytes = s .bytes; held = code; device = s .device }
+
+-- ---- its ranges
+
+-- 256 to the power of the count bytes taken
+abbrev pub limitOf : ℕ → ℕ
+limitOf head = 256 ^ (min head headerLength - 2)
+
+abbrev pub placeTests : Reader → List Bool
+placeTests s =
+    -- header bytes taken 0 to 6
+    leb (s .head) headerLength ∷
+    -- record bytes carried 0 to 3, none before the header is complete or once all records are done
+    leb (s .carried) 3 ∷
+    (eqb (s .carried) 0 || (eqb (s .head) headerLength && ltb (s .done) (s .count))) ∷
+    -- unused places 0
+    (ltb 0 (s .carried) || eqb (getD (s .bytes) 0 0) 0) ∷
+    (ltb 1 (s .carried) || eqb (getD (s .bytes) 1 0) 0) ∷
+    (ltb 2 (s .carried) || eqb (getD (s .bytes) 2 0) 0) ∷
+    -- the partial record count
+    ltb (s .count) (limitOf (s .head)) ∷
+    -- records done at most the count, and 0 before the header is complete
+    leb (s .done) (s .count) ∷
+    (eqb (s .head) headerLength || eqb (s .done) 0) ∷
+    []
+
+unfoldable pub placeOf : Reader → Bool
+placeOf s = allTrue (placeTests s)
+
+unfoldable pub rangesOf : Reader → Bool
+rangesOf s = allTrue (placeOf s ∷ leb (s .held) 5 ∷ sensorRanges (s .head) (s .device) ∷ [])
+
+-- ---- one byte
+
+-- no answer
+abbrev pub quietOf : Reader → Turn
+quietOf s = record { reader = s; pair = false; first = 0; second = 0 }
+
+-- the device count taken; the variant taken; one byte of the record count, highest first
+abbrev pub openedOf : Reader → Reader
+openedOf s = record { head = 1; count = s .count; done = s .done; carried = s .carried; bytes = s .bytes; held = s .held; device = s .device }
+
+abbrev pub poweredOf : Reader → ℕ → Reader
+poweredOf s variant = record { head = 2; count = s .count; done = s .done; carried = s .carried; bytes = s .bytes; held = s .held; device = sensorPowered variant }
+
+abbrev pub countedOf : Reader → ℕ → Reader
+countedOf s b = record { head = s .head + 1; count = s .count * 256 + b; done = s .done; carried = s .carried; bytes = s .bytes; held = s .held; device = s .device }
+
+-- header bytes are judged as they come: 1 unless the device count is 1, 2 unless the variant is 1, 2 or 3
+unfoldable pub headOf : Reader → ℕ → Reader
+headOf s b =
+    cond (eqb (s .head) 0) (cond (eqb b 1) (openedOf s) (holdOf s 1))
+    (cond (eqb (s .head) 1) (cond (variantOf b) (poweredOf s b) (holdOf s 2))
+    (countedOf s b))
+
+abbrev pub carryOf : Reader → ℕ → Reader
+carryOf s b = record { head = s .head; count = s .count; done = s .done; carried = s .carried + 1; bytes = set (s .bytes) (s .carried) b; held = s .held; device = s .device }
+
+-- a record done: its answer pair, nothing carried
+abbrev pub answeredOf : Reader → Answered → Turn
+answeredOf s a =
+    record {
+      reader = record { head = s .head; count = s .count; done = s .done + 1; carried = 0; bytes = noBytes; held = s .held; device = a .sensor };
+      pair = true;
+      first = a .first;
+      second = a .second;
+    }
+
+abbrev pub judgedOf : Reader → Record → Turn
+judgedOf s (Valid e) = answeredOf s (sensorEffect (s .device) e)
+judgedOf s (Refused why) = quietOf (holdOf s (codeOf (Refused why)))
+
+-- a record is judged at its fourth byte
+unfoldable pub recordOf : Reader → ℕ → Turn
+recordOf s c = judgedOf s (decodeOf (getD (s .bytes) 0 0) (getD (s .bytes) 1 0) (getD (s .bytes) 2 0) c)
+
+-- a state that holds a lasting code stays; a byte that is refused leaves such a state; 5 past the last counted record
+unfoldable pub turnOf : Reader → ℕ → Turn
+turnOf s b =
+    cond (eqb (s .held) 0)
+    (cond (ltb (s .head) headerLength) (quietOf (headOf s b))
+    (cond (ltb (s .done) (s .count))
+    (cond (ltb (s .carried) 3) (quietOf (carryOf s b)) (recordOf s b))
+    (quietOf (holdOf s 5))))
+    (quietOf s)
+
+abbrev pub pairOf : Turn → List ℕ
+pairOf t = cond (t .pair) (t .first ∷ t .second ∷ []) []
+
+-- ---- a call
+
+-- its code, the bytes consumed, the answer bytes and the state after it
+pub record Out : Type 0 where
+  pub code : ℕ
+  pub consumed : ℕ
+  pub answers : List ℕ
+  pub reader : Reader
+
+-- here the call ends: with the lasting code that the state holds, or 0
+abbrev pub stopOf : Reader → Out
+stopOf s = record { code = s .held; consumed = 0; answers = []; reader = s }
+
+-- here the call ends with a code that the state does not hold: 7 or 8
+abbrev pub refuseOf : Reader → ℕ → Out
+refuseOf s code = record { code = code; consumed = 0; answers = []; reader = s }
+
+-- what stands before an outcome: bytes consumed and answers written already
+abbrev pub joinOf : ℕ → List ℕ → Out → Out
+joinOf n answers o = record { code = o .code; consumed = n + o .consumed; answers = answers ++ o .answers; reader = o .reader }
+
+-- byte by byte with so much room: a refused byte is not consumed; 7 where a valid record is complete and no room is left
+unfoldable pub feedOf : Reader → List ℕ → ℕ → Out
+feedOf s [] room = stopOf s
+feedOf s (b ∷ bs) room =
+    cond (eqb (turnOf s b .reader .held) 0)
+    (cond (leb (length (pairOf (turnOf s b))) room)
+    (joinOf 1 (pairOf (turnOf s b)) (feedOf (turnOf s b .reader) bs (room - length (pairOf (turnOf s b)))))
+    (refuseOf s 7))
+    (stopOf (turnOf s b .reader))
+
+-- any state: 8 first, with the state as given
+abbrev pub callOf : Reader → List ℕ → ℕ → Out
+callOf s xs room = cond (rangesOf s) (feedOf s xs room) (refuseOf s 8)
+
+-- ---- asked to finish
+
+-- the held code, then 6 unless the capture is at its counted end
+abbrev pub endOf : Reader → ℕ
+endOf s = cond (eqb (s .held) 0) (cond (eqb (s .head) headerLength && eqb (s .done) (s .count)) 0 6) (s .held)
+
+abbrev pub finishOf : Reader → ℕ
+finishOf s = cond (rangesOf s) (endOf s) 8
+
+-- ---- what feed promises
+
+-- the buffer after an outcome: the answers in front, every other byte as it was
+abbrev pub filledOf : Out → List ℕ → List ℕ
+filledOf o entry = o .answers ++ drop (length (o .answers)) entry
+
+pub record Meets (o : Out) (r : Fed) (entry exit : List ℕ) : Type 0 where
+  pub code : r .code ≡ o .code
+  pub consumed : r .consumed ≡ o .consumed
+  pub written : r .written ≡ length (o .answers)
+  pub reader : r .reader ≡ o .reader
+  pub buffer : exit ≡ filledOf o entry
