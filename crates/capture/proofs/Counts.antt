@@ -1,24 +1,23 @@
 -- Two answer bytes for each record done, and so a bound on what a call writes.
 -- Assumes nothing.
-use Prim.Native.Nat.{ℕ, suc, _+_, _-_, _*_, _≤_, _<_}
-use mathlib.Core.Path.{_≡_, refl, ap, sym, _∙_}
-use mathlib.Core.List.{List, [], _∷_, _++_}
-use mathlib.Core.Bool.{Bool, true, false, cond, _&&_}
+use Prim.Native.Nat.{ℕ, suc, _+_, _-_, _*_, _<_}
+use mathlib.Core.Path.{_≡_, refl, ap}
+use mathlib.Core.List.{List, [], _∷_}
 use native.Mathlib.Omega.{arith}
 use lib.ListN.{length, getD, length-append}
-use lib.Dec.{ltb, leb, eqb}
+use lib.Dec.{ltb, eqb}
 use Rattle.record.specs.declared.Record.{Record}
 use Rattle.record.specs.declared.Record.the-variants.{Valid, Refused}
-use Rattle.record.specs.Record.{decodeOf, codeOf}
+use Rattle.record.specs.Record.{decodeOf}
 use Rattle.device.specs.Ranges.{variantOf}
 use Rattle.capture.specs.declared.Reader.{Reader}
 use Rattle.capture.specs.declared.Turn.{Turn}
-use Rattle.capture.specs.Reader.{Out, headOf, judgedOf, recordOf, turnOf, pairOf, feedOf, callOf, freshOf}
+use Rattle.capture.specs.Reader.{headOf, judgedOf, recordOf, turnOf, pairOf, feedOf, callOf, freshOf}
 use Rattle.capture.specs.Schedule.{Bytes}
-use borrow.Author.Tests.{leb-true, ltb-true, eqb-true}
+use borrow.Author.Tests.{leb-true, eqb-true}
 use Rattle.capture.proofs.InRange.{ranges, below-limit, limit-all}
 use Rattle.capture.proofs.Cuts.{fresh-ranges}
-use Rattle.laws.proofs.Choices.{cond-ind, by-test}
+use Rattle.laws.proofs.Choices.{cond-ind}
 use Rattle.capture.proofs.Outcomes.{feed-stop, feed-full, feed-on}
 use Rattle.capture.proofs.Run.{cases, feed-ranges}
 

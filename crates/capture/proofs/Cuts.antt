@@ -1,17 +1,15 @@
 -- Demand 3. `cuts`: a capture cut anywhere, its parts fed in order with any room, a retry after each 7 and only then, gives what the
 -- whole-capture definition gives. `determined`: two results that meet feed's promise are equal, buffer included.
 -- Assumes nothing.
-use Prim.Native.Nat.{ℕ, zero, suc, _+_, _-_, _≤_, _<_}
-use mathlib.Core.Path.{_≡_, refl, ap, sym, _∙_}
+use Prim.Native.Nat.{ℕ, zero, suc}
+use mathlib.Core.Path.{_≡_, ap, sym, _∙_}
 use mathlib.Core.List.{List, [], _∷_, _++_, append-nil}
-use mathlib.Core.Bool.{Bool, true, false, cond}
-use native.Mathlib.Omega.{arith}
+use mathlib.Core.Bool.{true}
 use lib.ListN.{length, take, drop}
 use lib.Seq.{take-append-seam}
 use Rattle.capture.specs.declared.Reader.{Reader}
 use Rattle.capture.specs.declared.Fed.{Fed}
-use Rattle.capture.specs.Reader.{Out, joinOf, feedOf, callOf, finishOf, endOf, placeOf, rangesOf, freshOf, Meets}
-use Rattle.capture.specs.Whole.{wholeOf}
+use Rattle.capture.specs.Reader.{Out, feedOf, callOf, endOf, placeOf, rangesOf, freshOf, Meets}
 use Rattle.capture.specs.Schedule.{seen, after, Part, Parts, joined, Bytes, SameAsWhole}
 use Rattle.capture.specs.Schedule.Part.{last, again}
 use Rattle.capture.specs.Schedule.Parts.{one, more}

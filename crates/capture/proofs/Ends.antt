@@ -1,19 +1,18 @@
 -- The schedule of a part ends: a call that follows a 7 with room for two bytes writes a pair and consumes a byte, so that the unread rest is shorter.
 -- Assumes nothing.
-use Prim.Native.Nat.{ℕ, zero, suc, _+_, _-_, _≤_, _<_}
-use mathlib.Core.Path.{_≡_, refl, ap, sym, _∙_}
+use Prim.Native.Nat.{ℕ, zero, suc, _-_, _≤_}
+use mathlib.Core.Path.{_≡_, refl, ap}
 use mathlib.Core.List.{List, [], _∷_, _++_}
-use mathlib.Core.Bool.{Bool, true, false, cond}
+use mathlib.Core.Bool.{true}
 use native.Mathlib.Omega.{arith}
-use native.Mathlib.Nat.{zero-add}
-use lib.ListN.{length, take, drop, length-append, length-drop, replicate, length-replicate}
-use lib.Dec.{ltb, leb, eqb}
+use lib.ListN.{length, drop, length-append, length-drop}
+use lib.Dec.{eqb}
 use borrow.Author.Tests.{leb-true, eqb-true, eqb-false}
 use Rattle.capture.specs.declared.Reader.{Reader}
 use Rattle.capture.specs.declared.Turn.{Turn}
 use Rattle.capture.specs.declared.Fed.{Fed}
-use Rattle.capture.specs.Reader.{Out, stopOf, refuseOf, joinOf, turnOf, pairOf, feedOf, callOf, rangesOf, Meets}
-use Rattle.capture.specs.Schedule.{seen, after, Part, Parts, joined, Bytes}
+use Rattle.capture.specs.Reader.{Out, turnOf, pairOf, feedOf, callOf, rangesOf, Meets}
+use Rattle.capture.specs.Schedule.{Part, Parts, joined, Bytes}
 use Rattle.capture.specs.Schedule.Part.{last, again}
 use Rattle.capture.specs.Schedule.Parts.{one, more}
 use Rattle.capture.proofs.Cuts.{part-run, bytes-left, bytes-right, bytes-drop}

@@ -1,22 +1,21 @@
 -- The loop of `feed`, as mathematics: what holds at each turn, and what each way out gives.
 -- Assumes nothing.
-use Prim.Native.Nat.{ℕ, suc, _+_, _-_, _≤_, _<_}
-use mathlib.Core.Path.{_≡_, refl, ap, sym, _∙_}
-use mathlib.Core.List.{List, [], _∷_, _++_, append-nil, append-assoc}
-use mathlib.Core.Bool.{Bool, true, false, cond}
+use Prim.Native.Nat.{ℕ, _+_, _-_, _≤_, _<_}
+use mathlib.Core.Path.{_≡_, refl, ap, _∙_}
+use mathlib.Core.List.{List, [], _∷_, _++_, append-nil}
+use mathlib.Core.Bool.{true, false}
 use native.Mathlib.Omega.{arith}
 use native.Mathlib.Numerals.{add-one}
 use native.Mathlib.Nat.{add-zero, sub-zero, zero-add, sub-add-eq}
 use lib.ListN.{length, getD, set, take, drop, take-append-drop, length-append, length-drop, drop-of-length-le}
 use lib.Seq.{drop-cons, length-take-le, drop-drop, drop-at, take-append-add, take-all}
-use lib.Dec.{ltb, leb, eqb}
 use borrow.Rule.Slice.PartMut.{putMid}
-use borrow.Author.Tests.{eq-eqb, ne-eqb, le-leb, lt-leb}
+use borrow.Author.Tests.{ne-eqb, lt-leb}
 use Rattle.capture.specs.declared.Reader.{Reader}
 use Rattle.capture.specs.declared.Turn.{Turn}
 use Rattle.capture.specs.declared.Fed.{Fed}
-use Rattle.capture.proofs.Outcomes.{join-join, feed-stop, feed-full, feed-on}
-use Rattle.capture.specs.Reader.{rangesOf, turnOf, pairOf, feedOf, callOf, Out, stopOf, refuseOf, joinOf, Meets}
+use Rattle.capture.proofs.Outcomes.{join-join, feed-on}
+use Rattle.capture.specs.Reader.{rangesOf, turnOf, pairOf, feedOf, callOf, Out, refuseOf, joinOf, Meets}
 
 -- what is known at the loop's head: the call's outcome is what has been done, and then that of the rest
 pub record Going (s₀ : Reader) (input entry answers : List ℕ) (s : Reader) (at written : ℕ) : Type 0 where

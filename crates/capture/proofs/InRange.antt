@@ -2,7 +2,7 @@
 -- Assumes nothing.
 use Prim.Native.Nat.{ℕ, zero, suc, _+_, _*_, min, _≤_, _<_, zero-le}
 use mathlib.Core.Path.{_≡_, refl}
-use mathlib.Core.Bool.{Bool, true, false, _||_, or-true, or-false}
+use mathlib.Core.Bool.{true, false, _||_, or-true, or-false}
 use mathlib.Core.List.{[], _∷_}
 use native.Mathlib.Omega.{arith}
 use native.Mathlib.Decide.{decLt}
@@ -19,7 +19,7 @@ use Rattle.record.specs.declared.Refusal.the-variants.{Kind, Operand}
 use Rattle.record.specs.Record.{decodeOf, codeOf}
 use Rattle.capture.specs.declared.Turn.{Turn}
 use Rattle.capture.specs.declared.Reader.{Reader}
-use Rattle.capture.specs.Sensor.{sensorRanges, sensorPowered, sensorEffect}
+use Rattle.capture.specs.Sensor.{sensorRanges, sensorEffect}
 use Rattle.capture.specs.Reader.{placeOf, rangesOf, placeTests, limitOf, holdOf, openedOf, poweredOf, countedOf, carryOf, answeredOf, judgedOf, headOf, recordOf, turnOf}
 use Rattle.capture.proofs.Sensors.{early-ranges, powered-ranges, later-ranges, effect-ranges}
 

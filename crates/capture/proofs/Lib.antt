@@ -7,3 +7,4 @@ pub mod Sections
 pub mod Cuts
 pub mod Ends
 pub mod Counts
+pub mod Written

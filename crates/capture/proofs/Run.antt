@@ -3,17 +3,15 @@
 use Prim.Native.Nat.{ℕ, _+_, _-_, _≤_, _<_}
 use mathlib.Core.Path.{_≡_, refl, ap, sym, _∙_}
 use mathlib.Core.List.{List, [], _∷_, _++_}
-use mathlib.Core.Bool.{Bool, true, false, cond}
-use native.Mathlib.Omega.{arith}
-use native.Mathlib.Nat.{zero-add, add-comm}
+use mathlib.Core.Bool.{true, cond}
 use native.Mathlib.Numerals.{one-add}
 use lib.ListN.{length, drop}
-use lib.Dec.{ltb, leb, eqb}
-use borrow.Author.Tests.{eqb-true, eqb-false, eq-eqb, ne-eqb, leb-true, leb-false}
+use lib.Dec.{leb, eqb}
+use borrow.Author.Tests.{eqb-true, eqb-false, ne-eqb, leb-true, leb-false}
 use Rattle.capture.specs.declared.Reader.{Reader}
-use Rattle.capture.specs.Reader.{Out, stopOf, refuseOf, joinOf, turnOf, pairOf, feedOf, rangesOf}
+use Rattle.capture.specs.Reader.{Out, stopOf, joinOf, turnOf, pairOf, feedOf, rangesOf}
 use Rattle.capture.specs.Schedule.{after, Bytes}
-use Rattle.laws.proofs.Choices.{cond-ind, by-test}
+use Rattle.laws.proofs.Choices.{by-test}
 use Rattle.capture.proofs.Outcomes.{join-join, join-none, feed-stop, feed-full, feed-on}
 use Rattle.capture.proofs.InRange.{turn-ranges}
 

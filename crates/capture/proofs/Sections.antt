@@ -4,7 +4,7 @@
 use Prim.Native.Nat.{ℕ, _+_, _*_}
 use mathlib.Core.Path.{_≡_, refl, ap, _∙_}
 use mathlib.Core.List.{List, [], _∷_}
-use mathlib.Core.Bool.{true, false, cond}
+use mathlib.Core.Bool.{true, false}
 use native.Mathlib.Omega.{arith}
 use lib.Dec.{ltb, eqb}
 use borrow.Author.Tests.{ltb-true, ne-eqb}
@@ -19,7 +19,7 @@ use Rattle.record.specs.Record.{decodeOf, codeOf}
 use Rattle.capture.specs.declared.Reader.{Reader}
 use Rattle.capture.specs.Sensor.{Sensor, zeroSensor, sensorPowered, sensorEffect}
 use Rattle.capture.specs.Reader.{Out, stopOf, joinOf, freshOf, holdOf, quietOf, answeredOf, judgedOf, turnOf, headOf, recordOf, endOf}
-use Rattle.capture.specs.Whole.{Whole, endsOf, refusesOf, thenOf, quads, over, Quad, quadOf, onRecord, heading, among, number, recordsOf, countOf, variantsOf, wholeOf}
+use Rattle.capture.specs.Whole.{Whole, refusesOf, thenOf, quads, over, Quad, quadOf, onRecord, heading, among, number, recordsOf, countOf, variantsOf, wholeOf}
 use Rattle.capture.proofs.Outcomes.{join-join}
 use Rattle.capture.proofs.Run.{runOf, run-on, run-stop, run-nil}
 

@@ -2,3 +2,5 @@ pub mod Sensor
 pub mod Reader
 pub mod Whole
 pub mod Schedule
+pub mod Written
+pub mod Codes

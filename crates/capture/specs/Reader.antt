@@ -13,7 +13,7 @@ use Rattle.record.specs.Record.{decodeOf, codeOf}
 use Rattle.capture.specs.declared.Reader.{Reader}
 use Rattle.capture.specs.declared.Turn.{Turn}
 use Rattle.capture.specs.declared.Fed.{Fed}
-use Rattle.capture.specs.Sensor.{Sensor, Answered, zeroSensor, sensorRanges, sensorPowered, sensorEffect, headerLength}
+use Rattle.capture.specs.Sensor.{Answered, zeroSensor, sensorRanges, sensorPowered, sensorEffect, headerLength}
 
 -- ---- the state
 
@@ -160,6 +160,9 @@ abbrev pub finishOf : Reader → ℕ
 finishOf s = cond (rangesOf s) (endOf s) 8
 
 -- ---- what feed promises
+
+abbrev pub reportOf : ℕ → ℕ → ℕ → Reader → Fed
+reportOf code consumed written s = record { code = code; consumed = consumed; written = written; reader = s }
 
 -- the buffer after an outcome: the answers in front, every other byte as it was
 abbrev pub filledOf : Out → List ℕ → List ℕ

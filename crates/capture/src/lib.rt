@@ -3,7 +3,7 @@ ghost use mathlib.Core.Path.{_≡_};
 ghost use mathlib.Core.List.{_∷_};
 ghost use Prim.Native.Nat.{_≤_};
 ghost use lib.ListN.{length, drop};
-ghost use Rattle.capture.specs.Reader.{freshOf, callOf, finishOf, Meets};
+ghost use Rattle.capture.specs.Reader.{freshOf, callOf, finishOf, reportOf, Meets};
 use conversion::Sensed;
 use device::Device;
 
@@ -77,17 +77,23 @@ fn put_pair(room: &mut [u8], first: u8, second: u8)
     room[1] = second;
 }
 
+fn report(code: u8, consumed: usize, written: usize, reader: Reader) -> Fed
+    ensures { λ r. ⌜ r ≡ reportOf code consumed written reader ⌝ }
+{
+    Fed {
+        code,
+        consumed,
+        written,
+        reader,
+    }
+}
+
 // As many bytes of the input as can be, the answers to the front of the lent buffer.
 pub fn feed(reader: Reader, input: &[u8], answers: &mut [u8]) -> Fed
     ensures { λ r. ⌜ Meets (callOf reader (now (input .entry)) (length (now (answers .entry)))) r (now (answers .entry)) (now (answers .exit)) ⌝ }
 {
     if !ranges::in_range(reader) {
-        return Fed {
-            code: 8,
-            consumed: 0,
-            written: 0,
-            reader,
-        };
+        return report(8, 0, 0, reader);
     }
     let mut s = reader;
     let mut at = 0;
@@ -96,21 +102,11 @@ pub fn feed(reader: Reader, input: &[u8], answers: &mut [u8]) -> Fed
         let t = taking::take_byte(s, input[at]);
         let next = t.reader;
         if next.held != 0 {
-            return Fed {
-                code: next.held,
-                consumed: at,
-                written,
-                reader: next,
-            };
+            return report(next.held, at, written, next);
         }
         if t.pair {
             if answers.len() - written < 2 {
-                return Fed {
-                    code: 7,
-                    consumed: at,
-                    written,
-                    reader: s,
-                };
+                return report(7, at, written, s);
             }
             put_pair(&mut answers[written..], t.first, t.second);
             written = written + 2;
@@ -118,12 +114,7 @@ pub fn feed(reader: Reader, input: &[u8], answers: &mut [u8]) -> Fed
         s = next;
         at = at + 1;
     }
-    Fed {
-        code: s.held,
-        consumed: at,
-        written,
-        reader: s,
-    }
+    report(s.held, at, written, s)
 }
 
 // Asked to finish: 8, the held code, 6 before the counted end, else 0.

@@ -1,8 +1,8 @@
 -- Demand 2, writing and reading back. `reads-back`: every event that the table allows is written as four bytes that read back as that
 -- event. `only-those`: any four bytes that read as it are those four, and it is allowed. So a refused event is read from nothing.
 -- Assumes nothing.
-use mathlib.Core.Path.{_≡_, refl, sym, ap, _∙_}
-use mathlib.Core.Bool.{Bool, true, false, _&&_, cond}
+use mathlib.Core.Path.{_≡_, refl}
+use mathlib.Core.Bool.{true}
 use mathlib.Core.List.{List, [], _∷_, map}
 use Prim.Native.Nat.{ℕ}
 use native.Mathlib.Omega.{arith}
@@ -12,11 +12,11 @@ use borrow.Author.Tests.{eqb-true}
 use Rattle.laws.proofs.Choices.{cond-ind}
 use Rattle.device.specs.declared.Event.{Event}
 use Rattle.device.specs.declared.Event.the-variants.{Write, Read, Send, Receive, Convert, Open, PowerOn}
-use Rattle.device.specs.Ranges.{allTrue, operandsOf}
+use Rattle.device.specs.Ranges.{operandsOf}
 use Rattle.device.proofs.Tests.{Each, each}
 use Rattle.record.specs.declared.Record.{Record}
 use Rattle.record.specs.declared.Record.the-variants.{Valid}
-use Rattle.record.specs.Record.{decodeOf, admitOf, goodOf, bytesOf, codeOf}
+use Rattle.record.specs.Record.{decodeOf, admitOf, goodOf, bytesOf}
 
 -- four bytes of a list, decoded
 abbrev pub readOf : List ℕ → Record

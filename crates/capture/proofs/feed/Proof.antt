@@ -20,10 +20,14 @@ abbrev μ-loop : tie.MeasureT-loop
 in-range-requires : tie.Need-in-range-requires Inv-loop μ-loop
 in-range-requires c κs = search needs
 
+report-requires : tie.Need-report-requires Inv-loop μ-loop
+report-requires c κs = search needs
+
 returns : tie.Need-returns Inv-loop μ-loop
 returns c =
-    let a = c .before .before .before .before .args in
-    outside (a .reader) (a .input .now) (a .answers .now) (sym (c .before .in-range .ensures) ∙ not-true (c .before .in-range .result) (c .if1 .taken))
+    let a = c .before .before .before .before .before .args in
+    rw (c .report .ensures)
+    (outside (a .reader) (a .input .now) (a .answers .now) (sym (c .before .before .in-range .ensures) ∙ not-true (c .before .before .in-range .result) (c .before .if1 .taken)))
 
 loop-holds : tie.Need-loop-holds Inv-loop μ-loop
 loop-holds c =
@@ -36,26 +40,34 @@ shared-slice-read-take-byte c = search needs
 take-byte-requires : tie.Need-take-byte-requires Inv-loop μ-loop
 take-byte-requires c κs = search needs
 
+report-requires-2 : tie.Need-report-requires-2 Inv-loop μ-loop
+report-requires-2 c κs = search needs
+
 same-length : tie.Need-same-length Inv-loop μ-loop
 same-length c = search needs
 
 returns-2 : tie.Need-returns-2 Inv-loop μ-loop
 returns-2 c =
-    let a = c .before .before .before .before .before .before .before .before .before .before .before .args in
-    called (a .reader) (a .input .now) (a .answers .now) (sym (c .before .before .before .before .before .before .before .before .in-range .ensures) ∙ not-false (c .before .before .before .before .before .before .before .before .in-range .result) (c .before .before .before .before .before .before .before .if1 .left))
-    (refused (c .before .before .before .before .before .before .loop .inv) (c .before .before .before .before .before .loop-test .taken) (c .before .before .before .take-byte .ensures) (c .if2 .taken))
+    let a = c .before .before .before .before .before .before .before .before .before .before .before .before .args in
+    rw (c .report2 .ensures)
+    (called (a .reader) (a .input .now) (a .answers .now) (sym (c .before .before .before .before .before .before .before .before .before .in-range .ensures) ∙ not-false (c .before .before .before .before .before .before .before .before .before .in-range .result) (c .before .before .before .before .before .before .before .before .if1 .left))
+    (refused (c .before .before .before .before .before .before .before .loop .inv) (c .before .before .before .before .before .before .loop-test .taken) (c .before .before .before .before .take-byte .ensures) (c .before .if2 .taken)))
 
 sub-if4 : tie.Need-sub-if4 Inv-loop μ-loop
 sub-if4 c = search needs
+
+report-requires-3 : tie.Need-report-requires-3 Inv-loop μ-loop
+report-requires-3 c κs = search needs
 
 same-length-2 : tie.Need-same-length-2 Inv-loop μ-loop
 same-length-2 c = search needs
 
 returns-3 : tie.Need-returns-3 Inv-loop μ-loop
 returns-3 c =
-    let a = c .before .before .before .before .before .before .before .before .before .before .before .before .before .args in
-    called (a .reader) (a .input .now) (a .answers .now) (sym (c .before .before .before .before .before .before .before .before .before .before .in-range .ensures) ∙ not-false (c .before .before .before .before .before .before .before .before .before .before .in-range .result) (c .before .before .before .before .before .before .before .before .before .if1 .left))
-    (full (c .before .before .before .before .before .before .before .before .loop .inv) (c .before .before .before .before .before .before .before .loop-test .taken) (c .before .before .before .before .before .take-byte .ensures) (c .before .before .if2 .left) (c .before .if3 .taken) (c .if4 .taken))
+    let a = c .before .before .before .before .before .before .before .before .before .before .before .before .before .before .args in
+    rw (c .report3 .ensures)
+    (called (a .reader) (a .input .now) (a .answers .now) (sym (c .before .before .before .before .before .before .before .before .before .before .before .in-range .ensures) ∙ not-false (c .before .before .before .before .before .before .before .before .before .before .before .in-range .result) (c .before .before .before .before .before .before .before .before .before .before .if1 .left))
+    (full (c .before .before .before .before .before .before .before .before .before .loop .inv) (c .before .before .before .before .before .before .before .before .loop-test .taken) (c .before .before .before .before .before .before .take-byte .ensures) (c .before .before .before .if2 .left) (c .before .before .if3 .taken) (c .before .if4 .taken)))
 
 sub-put-pair : tie.Need-sub-put-pair Inv-loop μ-loop
 sub-put-pair c = search needs
@@ -88,14 +100,18 @@ loop-again c =
     ⊎-elim (λ w. rw (w .7) (paired g h e k (c .before .if2 .left) (w .0 .taken) (w .1 .left) (w .6 ∙ stored (l .answers) (w .3 .last .0) _ _ _ (w .3 .ensures))))
     (λ w. rw (w .1, w .2) (silent g h e k (c .before .if2 .left) (w .0 .left))) (c .if3 .came)
 
+report-requires-4 : tie.Need-report-requires-4 Inv-loop μ-loop
+report-requires-4 c κs = search needs
+
 same-length-3 : tie.Need-same-length-3 Inv-loop μ-loop
 same-length-3 c = search needs
 
 returns-4 : tie.Need-returns-4 Inv-loop μ-loop
 returns-4 c =
-    let a = c .before .before .before .before .before .before .args in
-    called (a .reader) (a .input .now) (a .answers .now) (sym (c .before .before .before .in-range .ensures) ∙ not-false (c .before .before .before .in-range .result) (c .before .before .if1 .left))
-    (finished (c .before .loop .inv) (c .loop-test .left))
+    let a = c .before .before .before .before .before .before .before .args in
+    rw (c .report4 .ensures)
+    (called (a .reader) (a .input .now) (a .answers .now) (sym (c .before .before .before .before .in-range .ensures) ∙ not-false (c .before .before .before .before .in-range .result) (c .before .before .before .if1 .left))
+    (finished (c .before .before .loop .inv) (c .before .loop-test .left)))
 
 pub feed-spec : {M : Type 1} → statement M
 feed-spec =
@@ -104,13 +120,16 @@ feed-spec =
     Inv-loop
     μ-loop
     in-range-requires
+    report-requires
     returns
     loop-holds
     shared-slice-read-take-byte
     take-byte-requires
+    report-requires-2
     same-length
     returns-2
     sub-if4
+    report-requires-3
     same-length-2
     returns-3
     sub-put-pair
@@ -121,5 +140,6 @@ feed-spec =
     add-at
     loop-less
     loop-again
+    report-requires-4
     same-length-3
     returns-4)

@@ -1,0 +1,124 @@
+-- The table of codes, line by line: which code a call gives, and exactly when, in facts about the state, the bytes and the room that
+-- are handed in.
+-- Assumes nothing.
+use Prim.Native.Nat.{ℕ, zero, suc, _+_, _-_, _*_, _≤_, _<_}
+use mathlib.Core.Path.{_≡_}
+use mathlib.Core.List.{List, [], _∷_, _++_}
+use mathlib.Core.Bool.{Bool, true, false, cond, _&&_}
+use lib.ListN.{length, take, drop}
+use lib.Dec.{leb, eqb}
+use Rattle.device.specs.declared.Event.{Event}
+use Rattle.device.specs.Ranges.{variantOf}
+use Rattle.record.specs.declared.Record.the-variants.{Valid, Refused}
+use Rattle.record.specs.declared.Refusal.the-variants.{Operand}
+use Rattle.capture.specs.declared.Reader.{Reader}
+use Rattle.capture.specs.Sensor.{headerLength}
+use Rattle.capture.specs.Reader.{rangesOf}
+use Rattle.capture.specs.Whole.{Quad, quads, quadOf}
+
+-- ---- the header that is still ahead
+
+-- what the bytes decide of it: a device count that is not 1, a variant that is not 1, 2 or 3, an end within the header, or a header
+-- that is complete, with its record count and the bytes behind it
+pub data Ahead : Type 0 where
+  badCount : Ahead
+  badVariant : Ahead
+  unfinished : Ahead
+  complete : ℕ → List ℕ → Ahead
+
+-- so many bytes of the record count to come, and the count so far
+abbrev pub numberAhead : ℕ → ℕ → List ℕ → Ahead
+numberAhead zero n xs = complete n xs
+numberAhead (suc k) n [] = unfinished
+numberAhead (suc k) n (b ∷ xs) = numberAhead k (n * 256 + b) xs
+
+abbrev pub variantAhead : List ℕ → Ahead
+variantAhead [] = unfinished
+variantAhead (v ∷ xs) = cond (variantOf v) (numberAhead 4 0 xs) badVariant
+
+abbrev pub countAhead : List ℕ → Ahead
+countAhead [] = unfinished
+countAhead (n ∷ xs) = cond (eqb n 1) (variantAhead xs) badCount
+
+unfoldable pub aheadOf : Reader → List ℕ → Ahead
+aheadOf s xs =
+    cond (eqb (s .head) 0) (countAhead xs)
+    (cond (eqb (s .head) 1) (variantAhead xs)
+    (numberAhead (headerLength - s .head) (s .count) xs))
+
+-- ---- the records that are still ahead
+
+-- the bytes that are carried
+abbrev pub carriedOf : Reader → List ℕ
+carriedOf s = take (s .carried) (s .bytes)
+
+-- kind 01 to 07
+abbrev pub knownKind : ℕ → Bool
+knownKind kind = leb 1 kind && leb kind 7
+
+abbrev pub IsValid : Quad → Type 0
+IsValid q = (e : Event) × (quadOf q ≡ Valid e)
+
+abbrev pub AllValid : List Quad → Type 0
+AllValid [] = Unit {0}
+AllValid (q ∷ qs) = IsValid q × AllValid qs
+
+-- of the records in `l`, k of n done before them, record j (from 0) is judged: it is counted and complete, those before it are valid, and
+-- their answers had room
+pub record Judged (n k : ℕ) (l : List ℕ) (room j : ℕ) (q : Quad) : Type 0 where
+  pub rest : List Quad
+  pub there : drop j (quads l) ≡ q ∷ rest
+  pub counted : k + j < n
+  pub before : AllValid (take j (quads l))
+  pub space : j * 2 ≤ room
+
+-- every counted record is complete and valid, their answers had room, and a byte comes after the last
+pub record Past (n k : ℕ) (l : List ℕ) (room : ℕ) : Type 0 where
+  pub beyond : (n - k) * 4 < length l
+  pub before : AllValid (take (n - k) (quads l))
+  pub space : (n - k) * 2 ≤ room
+
+-- every complete record is counted and valid, their answers had room, and no byte comes after the last counted one
+pub record Done (n k : ℕ) (l : List ℕ) (room : ℕ) : Type 0 where
+  pub within : length l ≤ (n - k) * 4
+  pub before : AllValid (quads l)
+  pub space : length (quads l) * 2 ≤ room
+
+-- ---- the table
+
+-- the state is in its ranges and holds no lasting code
+pub record Free (s : Reader) : Type 0 where
+  pub ranges : rangesOf s ≡ true
+  pub none : s .held ≡ 0
+
+-- a call from state s with bytes xs and some room gives this code
+pub data Gives (s : Reader) (xs : List ℕ) (room : ℕ) : ℕ → Type 0 where
+  -- 8: the state handed in is out of its ranges
+  out-of-ranges : rangesOf s ≡ false → Gives s xs room 8
+  -- a lasting code already held
+  held : rangesOf s ≡ true → (s .held ≡ 0 → ⊥) → Gives s xs room (s .held)
+  -- 1: device count is not 1
+  device-count : Free s → aheadOf s xs ≡ badCount → Gives s xs room 1
+  -- 2: variant is not 1, 2 or 3
+  variant : Free s → aheadOf s xs ≡ badVariant → Gives s xs room 2
+  -- 3: kind is not 01 to 07
+  kind : {n j : ℕ} {l : List ℕ} {q : Quad} → Free s → aheadOf s xs ≡ complete n l → Judged n (s .done) (carriedOf s ++ l) room j q
+      → knownKind (q .kind) ≡ false → Gives s xs room 3
+  -- 4: an operand breaks the table
+  operand : {n j : ℕ} {l : List ℕ} {q : Quad} → Free s → aheadOf s xs ≡ complete n l → Judged n (s .done) (carriedOf s ++ l) room j q
+      → quadOf q ≡ Refused Operand → Gives s xs room 4
+  -- 5: a byte comes after the last counted record
+  past-end : {n : ℕ} {l : List ℕ} → Free s → aheadOf s xs ≡ complete n l → Past n (s .done) (carriedOf s ++ l) room → Gives s xs room 5
+  -- 7: a valid record is complete but fewer than two bytes of room are left
+  no-room : {n j : ℕ} {l : List ℕ} {q : Quad} → Free s → aheadOf s xs ≡ complete n l → Judged n (s .done) (carriedOf s ++ l) room j q
+      → IsValid q → room < j * 2 + 2 → Gives s xs room 7
+  -- 0: none of the others applies
+  in-header : Free s → aheadOf s xs ≡ unfinished → Gives s xs room 0
+  in-records : {n : ℕ} {l : List ℕ} → Free s → aheadOf s xs ≡ complete n l → Done n (s .done) (carriedOf s ++ l) room → Gives s xs room 0
+
+-- asked to finish, state s gives this code
+pub data Finishes (s : Reader) : ℕ → Type 0 where
+  out-of-ranges : rangesOf s ≡ false → Finishes s 8
+  held : rangesOf s ≡ true → (s .held ≡ 0 → ⊥) → Finishes s (s .held)
+  before-end : Free s → (s .head ≡ headerLength → s .done ≡ s .count → ⊥) → Finishes s 6
+  at-end : Free s → s .head ≡ headerLength → s .done ≡ s .count → Finishes s 0
