@@ -6,5 +6,6 @@ pub mod Run
 pub mod Sections
 pub mod Cuts
 pub mod Ends
+pub mod Rooms
 pub mod Counts
 pub mod Written

@@ -13,7 +13,7 @@ use Rattle.device.specs.declared.Event.{Event}
 use Rattle.device.specs.declared.Event.the-variants.{Write, Read, Send, Receive, Convert, Open, PowerOn}
 use Rattle.device.specs.Ranges.{variantOf, operandsOf}
 use Rattle.record.specs.declared.Record.the-variants.{Valid}
-use Rattle.record.specs.Record.{bytesOf}
+use Rattle.record.specs.Record.{encodeOf}
 use Rattle.record.specs.Writer.{headerOf}
 use Rattle.record.proofs.RoundTrip.{reads-back}
 use Rattle.capture.specs.Sensor.{Sensor, sensorPowered, sensorEffect}
@@ -25,13 +25,13 @@ use Rattle.capture.specs.Written.{recordsBytes, answersOf, Allowed, Read
 -- an event's record as its four bytes
 record Four (e : Event) : Type 0 where
   quad : Quad
-  bytes : bytesOf e ≡ quad .kind ∷ quad .a ∷ quad .b ∷ quad .c ∷ []
+  bytes : encodeOf e ≡ quad .kind ∷ quad .a ∷ quad .b ∷ quad .c ∷ []
 
 abbrev four : ℕ → ℕ → ℕ → ℕ → Quad
 four kind a b c = record { kind = kind; a = a; b = b; c = c }
 
 four-of : (e : Event) → Four e
-unfolding bytesOf
+unfolding encodeOf
 four-of (Write a b c) = record { quad = four 1 a b c; bytes = refl }
 four-of (Read a b) = record { quad = four 2 a b 0; bytes = refl }
 four-of (Send a b) = record { quad = four 3 a b 0; bytes = refl }
@@ -45,7 +45,7 @@ module _ (n k : ℕ) (d : Sensor) (e : Event) (xs : List ℕ) where
   rest = recordsOf n (k + 1) (sensorEffect d e .sensor) (quads xs) (over xs)
 
   one-record : operandsOf e ≡ true → k < n
-      → recordsOf n k d (quads (bytesOf e ++ xs)) (over (bytesOf e ++ xs)) ≡ thenOf 4 (sensorEffect d e .first ∷ sensorEffect d e .second ∷ []) rest
+      → recordsOf n k d (quads (encodeOf e ++ xs)) (over (encodeOf e ++ xs)) ≡ thenOf 4 (sensorEffect d e .first ∷ sensorEffect d e .second ∷ []) rest
   unfolding recordsOf
   one-record h l =
       let f = four-of e in
@@ -67,7 +67,7 @@ all-records n k d [] e a =
     record { code = refl; finishing = rw (eq-eqb k n end); consumed = refl; answers = refl }
 all-records n k d (e ∷ es) s a =
     let r = all-records n (k + 1) (sensorEffect d e .sensor) es (omega arith) (a .1) in
-    let four-long : length (bytesOf e) ≡ 4 = rw (four-of e .bytes) in
+    let four-long : length (encodeOf e) ≡ 4 = rw (four-of e .bytes) in
     rw (one-record n k d e (recordsBytes es) (a .0) (omega arith))
     (record {
       code = r .code;

@@ -7,7 +7,7 @@ use mathlib.Core.List.{List, [], _∷_, _++_}
 use lib.ListN.{length}
 use Rattle.device.specs.declared.Event.{Event}
 use Rattle.device.specs.Ranges.{operandsOf}
-use Rattle.record.specs.Record.{bytesOf}
+use Rattle.record.specs.Record.{encodeOf}
 use Rattle.record.specs.Writer.{headerOf}
 use Rattle.capture.specs.Sensor.{Sensor, sensorPowered, sensorEffect}
 use Rattle.capture.specs.Whole.{wholeOf}
@@ -15,7 +15,7 @@ use Rattle.capture.specs.Whole.{wholeOf}
 -- one record after the other
 abbrev pub recordsBytes : List Event → List ℕ
 recordsBytes [] = []
-recordsBytes (e ∷ es) = bytesOf e ++ recordsBytes es
+recordsBytes (e ∷ es) = encodeOf e ++ recordsBytes es
 
 -- the header with the events' count, and their records
 abbrev pub captureOf : ℕ → List Event → List ℕ

@@ -16,14 +16,14 @@ use Rattle.device.specs.Ranges.{operandsOf}
 use Rattle.device.proofs.Tests.{Each, each}
 use Rattle.record.specs.declared.Record.{Record}
 use Rattle.record.specs.declared.Record.the-variants.{Valid}
-use Rattle.record.specs.Record.{decodeOf, admitOf, goodOf, bytesOf}
+use Rattle.record.specs.Record.{decodeOf, admitOf, goodOf, encodeOf}
 
 -- four bytes of a list, decoded
 abbrev pub readOf : List ℕ → Record
 readOf q = decodeOf (getD q 0 0) (getD q 1 0) (getD q 2 0) (getD q 3 0)
 
-pub four-bytes : (e : Event) → length (bytesOf e) ≡ 4
-unfolding bytesOf
+pub four-bytes : (e : Event) → length (encodeOf e) ≡ 4
+unfolding encodeOf
 four-bytes (Write a b c) = refl
 four-bytes (Read a b) = refl
 four-bytes (Send a b) = refl
@@ -32,8 +32,8 @@ four-bytes (Convert a b c) = refl
 four-bytes (Open a) = refl
 four-bytes PowerOn = refl
 
-pub reads-back : (e : Event) → operandsOf e ≡ true → readOf (bytesOf e) ≡ Valid e
-unfolding decodeOf bytesOf
+pub reads-back : (e : Event) → operandsOf e ≡ true → readOf (encodeOf e) ≡ Valid e
+unfolding decodeOf encodeOf
 reads-back (Write a b c) h = rw h
 reads-back (Read a b) h = rw h
 reads-back (Send a b) h = rw h
@@ -46,7 +46,7 @@ reads-back PowerOn h = rw h
 
 -- what four bytes that read as an event tell of it
 pub record Told (kind a b c : ℕ) (e : Event) : Type 0 where
-  pub bytes : kind ∷ a ∷ b ∷ c ∷ [] ≡ bytesOf e
+  pub bytes : kind ∷ a ∷ b ∷ c ∷ [] ≡ encodeOf e
   pub operands : operandsOf e ≡ true
 
 same-event : {e f : Event} → _≡_ {A = Record} (Valid e) (Valid f) → e ≡ f
@@ -54,14 +54,14 @@ same-event q = cc
 
 module _ (kind a b c : ℕ) (e : Event) where
   -- a record that is admitted is the event's, if its bytes are so where the other operands are 0
-  admitted : (f : Event) (others : List ℕ) → (Each (map (λ x. eqb x 0) others) → kind ∷ a ∷ b ∷ c ∷ [] ≡ bytesOf f)
+  admitted : (f : Event) (others : List ℕ) → (Each (map (λ x. eqb x 0) others) → kind ∷ a ∷ b ∷ c ∷ [] ≡ encodeOf f)
       → admitOf (goodOf f others) f ≡ Valid e → Told kind a b c e
   admitted f others so = cond-ind (λ (r : Record). r ≡ Valid e → Told kind a b c e) (goodOf f others)
       (λ good q. let t = each (operandsOf f ∷ map (λ x. eqb x 0) others) good in rw (← (same-event q)) (record { bytes = so (t .1); operands = t .0 }))
       (λ _ q. let z : _≡_ {A = ℕ} 0 1 = cc in absurd (omega arith))
 
   pub only-those : decodeOf kind a b c ≡ Valid e → Told kind a b c e
-  unfolding decodeOf bytesOf
+  unfolding decodeOf encodeOf
   only-those =
       cond-ind Reads (eqb kind 0x01) (λ k. admitted (Write a b c) [] (λ _. rw (eqb-true kind 0x01 k)))
       (λ _. cond-ind Reads (eqb kind 0x02) (λ k. admitted (Read a b) (c ∷ []) (λ z. rw (eqb-true kind 0x02 k, eqb-true c 0 (z .0))))

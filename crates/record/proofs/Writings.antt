@@ -1,15 +1,17 @@
 -- The three ways out of a writer, and that its promise has one answer: `one-writing`.
 -- Assumes nothing.
-use mathlib.Core.Path.{_≡_, refl, sym, _∙_}
+use mathlib.Core.Path.{_≡_, refl, sym, ap, _∙_}
 use mathlib.Core.Bool.{Bool, true, false, cond}
 use mathlib.Core.List.{List, _++_}
 use Prim.Native.Nat.{ℕ, _≤_, _<_}
 use lib.Dec.{leb}
-use lib.ListN.{length, drop}
+use native.Mathlib.Nat.{le-refl}
+use lib.ListN.{length, take, drop}
+use lib.Seq.{take-all}
 use borrow.Author.Tests.{le-leb, lt-leb}
 use Rattle.device.specs.declared.Event.{Event}
 use Rattle.device.specs.Ranges.{variantOf, operandsOf}
-use Rattle.record.specs.Record.{bytesOf}
+use Rattle.record.specs.Record.{encodeOf}
 use Rattle.record.specs.Writer.{Writing, writes, refuses, headerOf, writeEventOf, writeHeaderOf, Wrote}
 
 -- a good thing to write, n bytes of room wanted, `bad` the code of another
@@ -26,6 +28,10 @@ module _ {good : Bool} (n room : ℕ) (bytes entry : List ℕ) (bad : ℕ) where
   pub written : {exit : List ℕ} → good ≡ true → n ≤ room → exit ≡ bytes ++ drop (length bytes) entry → Wrote (writing good n room bytes bad) 0 entry exit
   written g h e = rw (g, le-leb n room h) (record { told = refl; buffer = e })
 
+-- what the copy of all of `bytes` leaves
+pub copied : (bytes entry : List ℕ) {exit : List ℕ} → exit ≡ take (length bytes) bytes ++ drop (length bytes) entry → exit ≡ bytes ++ drop (length bytes) entry
+copied bytes entry e = e ∙ ap (λ (l : List ℕ). l ++ drop (length bytes) entry) (take-all (length bytes) bytes (le-refl (length bytes)))
+
 -- two results that meet one promise are equal, and so are their buffers
 pub one-writing : {w : Writing} {code code′ : ℕ} {entry exit exit′ : List ℕ} → Wrote w code entry exit → Wrote w code′ entry exit′ → (code ≡ code′) × (exit ≡ exit′)
 one-writing a b = (a .told ∙ sym (b .told), a .buffer ∙ sym (b .buffer))
@@ -35,15 +41,15 @@ one-writing a b = (a .told ∙ sym (b .told), a .buffer ∙ sym (b .buffer))
 module _ (e : Event) (room : ℕ) {entry : List ℕ} where
   pub event-refused : operandsOf e ≡ false → Wrote (writeEventOf e room) 4 entry entry
   unfolding writeEventOf
-  event-refused = refused 4 room (bytesOf e) entry 4
+  event-refused = refused 4 room (encodeOf e) entry 4
 
   pub event-full : operandsOf e ≡ true → room < 4 → Wrote (writeEventOf e room) 7 entry entry
   unfolding writeEventOf
-  event-full = full 4 room (bytesOf e) entry 4
+  event-full = full 4 room (encodeOf e) entry 4
 
-  pub event-written : {exit : List ℕ} → operandsOf e ≡ true → 4 ≤ room → exit ≡ bytesOf e ++ drop (length (bytesOf e)) entry → Wrote (writeEventOf e room) 0 entry exit
+  pub event-written : {exit : List ℕ} → operandsOf e ≡ true → 4 ≤ room → exit ≡ encodeOf e ++ drop (length (encodeOf e)) entry → Wrote (writeEventOf e room) 0 entry exit
   unfolding writeEventOf
-  event-written = written 4 room (bytesOf e) entry 4
+  event-written = written 4 room (encodeOf e) entry 4
 
 module _ (variant count room : ℕ) {entry : List ℕ} where
   pub header-refused : variantOf variant ≡ false → Wrote (writeHeaderOf variant count room) 2 entry entry

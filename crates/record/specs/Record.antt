@@ -38,11 +38,11 @@ decodeOf kind a b c =
     (Refused Kind)))))))
 
 -- the other way
-unfoldable pub bytesOf : Event → List ℕ
-bytesOf (Write a b c) = 0x01 ∷ a ∷ b ∷ c ∷ []
-bytesOf (Read a b) = 0x02 ∷ a ∷ b ∷ 0 ∷ []
-bytesOf (Send a b) = 0x03 ∷ a ∷ b ∷ 0 ∷ []
-bytesOf (Receive a) = 0x04 ∷ a ∷ 0 ∷ 0 ∷ []
-bytesOf (Convert a b c) = 0x05 ∷ a ∷ b ∷ c ∷ []
-bytesOf (Open a) = 0x06 ∷ a ∷ 0 ∷ 0 ∷ []
-bytesOf PowerOn = 0x07 ∷ 0 ∷ 0 ∷ 0 ∷ []
+unfoldable pub encodeOf : Event → List ℕ
+encodeOf (Write a b c) = 0x01 ∷ a ∷ b ∷ c ∷ []
+encodeOf (Read a b) = 0x02 ∷ a ∷ b ∷ 0 ∷ []
+encodeOf (Send a b) = 0x03 ∷ a ∷ b ∷ 0 ∷ []
+encodeOf (Receive a) = 0x04 ∷ a ∷ 0 ∷ 0 ∷ []
+encodeOf (Convert a b c) = 0x05 ∷ a ∷ b ∷ c ∷ []
+encodeOf (Open a) = 0x06 ∷ a ∷ 0 ∷ 0 ∷ []
+encodeOf PowerOn = 0x07 ∷ 0 ∷ 0 ∷ 0 ∷ []

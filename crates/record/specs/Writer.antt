@@ -8,7 +8,7 @@ use lib.Dec.{leb}
 use lib.ListN.{length, drop}
 use Rattle.device.specs.declared.Event.{Event}
 use Rattle.device.specs.Ranges.{variantOf, operandsOf}
-use Rattle.record.specs.Record.{bytesOf}
+use Rattle.record.specs.Record.{encodeOf}
 
 -- a code, and the bytes that go to the front of the buffer
 pub record Writing : Type 0 where
@@ -23,7 +23,7 @@ refuses code = record { code = code; bytes = [] }
 
 -- an event: 4 for an operand outside the table, then 7 for fewer than four bytes of room
 unfoldable pub writeEventOf : Event → ℕ → Writing
-writeEventOf e room = cond (operandsOf e) (cond (leb 4 room) (writes (bytesOf e)) (refuses 7)) (refuses 4)
+writeEventOf e room = cond (operandsOf e) (cond (leb 4 room) (writes (encodeOf e)) (refuses 7)) (refuses 4)
 
 -- a capture's header: device count 1, variant, record count in four bytes, highest first
 unfoldable pub headerOf : ℕ → ℕ → List ℕ

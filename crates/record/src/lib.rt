@@ -1,9 +1,7 @@
 // Records: four bytes to an event or a refusal, and back; the header's six bytes.
 ghost use mathlib.Core.Path.{_≡_};
-ghost use mathlib.Core.List.{_++_};
-ghost use Prim.Native.Nat.{_≤_};
-ghost use lib.ListN.{length, drop};
-ghost use Rattle.record.specs.Record.{decodeOf, codeOf, admitOf, bytesOf};
+ghost use lib.ListN.{length};
+ghost use Rattle.record.specs.Record.{decodeOf, codeOf, admitOf, encodeOf};
 ghost use Rattle.record.specs.Writer.{headerOf, writeEventOf, writeHeaderOf, Wrote};
 use device::Event;
 
@@ -58,8 +56,8 @@ pub fn decode(kind: u8, a: u8, b: u8, c: u8) -> Record
 }
 
 // The event's record, whatever its operands.
-pub fn bytes(e: Event) -> [u8; 4]
-    ensures { λ r. ⌜ r ≡ bytesOf e ⌝ }
+pub fn encode(e: Event) -> [u8; 4]
+    ensures { λ r. ⌜ r ≡ encodeOf e ⌝ }
 {
     match e {
         Event::Write(a, b, c) => [1, a, b, c],
@@ -69,18 +67,6 @@ pub fn bytes(e: Event) -> [u8; 4]
         Event::Convert(a, b, c) => [5, a, b, c],
         Event::Open(a) => [6, a, 0, 0],
         Event::PowerOn => [7, 0, 0, 0],
-    }
-}
-
-// The bytes to the front of the room, the rest of it as it was.
-fn put(room: &mut [u8], bytes: &[u8])
-    requires { ⌜ length (now bytes) ≤ length (now room) ⌝ }
-    ensures { λ _. ⌜ now (room .exit) ≡ now (bytes .entry) ++ drop (length (now (bytes .entry))) (now (room .entry)) ⌝ }
-{
-    let mut i = 0;
-    while i < bytes.len() {
-        room[i] = bytes[i];
-        i = i + 1;
     }
 }
 
@@ -94,8 +80,8 @@ pub fn write_event(e: Event, room: &mut [u8]) -> u8
     if room.len() < 4 {
         return 7;
     }
-    let q = bytes(e);
-    put(room, &q);
+    let q = encode(e);
+    bytes::copy(&q, room);
     0
 }
 
@@ -123,6 +109,6 @@ pub fn write_header(variant: u8, count: u32, room: &mut [u8]) -> u8
         return 7;
     }
     let q = header(variant, count);
-    put(room, &q);
+    bytes::copy(&q, room);
     0
 }

@@ -3,7 +3,7 @@ use borrow.Author.Needs.{needs}
 use mathlib.Core.Path.{sym}
 use borrow.Author.Tests.{not-true, not-false}
 use mathlib.Core.Path.{sym, _∙_}
-use Rattle.record.proofs.Writings.{event-refused, event-full, event-written}
+use Rattle.record.proofs.Writings.{copied, event-refused, event-full, event-written}
 use Rattle.record.proofs.write_event.Statement.{statement}
 use Rattle.record.proofs.write_event.Tie as tie
 
@@ -16,14 +16,14 @@ returns c = event-refused _ _ (sym (c .before .operands .ensures) ∙ not-true (
 returns-2 : tie.Need-returns-2
 returns-2 c = event-full _ _ (sym (c .before .before .operands .ensures) ∙ not-false (c .before .before .operands .result) (c .before .if1 .left)) (c .if2 .taken)
 
-bytes-requires : tie.Need-bytes-requires
-bytes-requires c κs = search needs
+encode-requires : tie.Need-encode-requires
+encode-requires c κs = search needs
 
-slice-aggregate-put : tie.Need-slice-aggregate-put
-slice-aggregate-put c = search needs
+slice-aggregate-copy : tie.Need-slice-aggregate-copy
+slice-aggregate-copy c = search needs
 
-put-requires : tie.Need-put-requires
-put-requires c κs = search needs
+copy-requires : tie.Need-copy-requires
+copy-requires c κs = search needs
 
 same-length : tie.Need-same-length
 same-length c = search needs
@@ -31,7 +31,7 @@ same-length c = search needs
 returns-3 : tie.Need-returns-3
 returns-3 c =
     let a = c .before .before .before .before .before .before .before .before in
-    event-written _ _ (sym (a .operands .ensures) ∙ not-false (a .operands .result) (c .before .before .before .before .before .before .before .if1 .left)) (c .before .before .before .before .before .before .if2 .left) (rw (c .before .before .before .before .before .bytes .ensures) at (c .before .before .put .ensures))
+    event-written _ _ (sym (a .operands .ensures) ∙ not-false (a .operands .result) (c .before .before .before .before .before .before .before .if1 .left)) (c .before .before .before .before .before .before .if2 .left) (rw (c .before .before .before .before .before .encode .ensures) at (copied (c .before .before .before .before .before .encode .result) (c .before .before .before .before .before .before .before .before .before .before .args .room .now) (c .before .before .copy .ensures .1)))
 
 pub write-event-spec : {M : Type 1} → statement M
 write-event-spec =
@@ -40,8 +40,8 @@ write-event-spec =
     operands-requires
     returns
     returns-2
-    bytes-requires
-    slice-aggregate-put
-    put-requires
+    encode-requires
+    slice-aggregate-copy
+    copy-requires
     same-length
     returns-3)

@@ -3,7 +3,7 @@ use borrow.Author.Needs.{needs}
 use mathlib.Core.Path.{sym}
 use borrow.Author.Tests.{not-true, not-false}
 use mathlib.Core.Path.{sym, _∙_}
-use Rattle.record.proofs.Writings.{header-refused, header-full, header-written}
+use Rattle.record.proofs.Writings.{copied, header-refused, header-full, header-written}
 use Rattle.record.proofs.write_header.Statement.{statement}
 use Rattle.record.proofs.write_header.Tie as tie
 
@@ -19,11 +19,11 @@ returns-2 c = header-full _ _ _ (sym (c .before .before .variant .ensures) ∙ n
 header-requires : tie.Need-header-requires
 header-requires c κs = search needs
 
-slice-aggregate-put : tie.Need-slice-aggregate-put
-slice-aggregate-put c = search needs
+slice-aggregate-copy : tie.Need-slice-aggregate-copy
+slice-aggregate-copy c = search needs
 
-put-requires : tie.Need-put-requires
-put-requires c κs = search needs
+copy-requires : tie.Need-copy-requires
+copy-requires c κs = search needs
 
 same-length : tie.Need-same-length
 same-length c = search needs
@@ -31,7 +31,7 @@ same-length c = search needs
 returns-3 : tie.Need-returns-3
 returns-3 c =
     let a = c .before .before .before .before .before .before .before .before in
-    header-written _ _ _ (sym (a .variant .ensures) ∙ not-false (a .variant .result) (c .before .before .before .before .before .before .before .if1 .left)) (c .before .before .before .before .before .before .if2 .left) (rw (c .before .before .before .before .before .header .ensures) at (c .before .before .put .ensures))
+    header-written _ _ _ (sym (a .variant .ensures) ∙ not-false (a .variant .result) (c .before .before .before .before .before .before .before .if1 .left)) (c .before .before .before .before .before .before .if2 .left) (rw (c .before .before .before .before .before .header .ensures) at (copied (c .before .before .before .before .before .header .result) (c .before .before .before .before .before .before .before .before .before .before .args .room .now) (c .before .before .copy .ensures .1)))
 
 pub write-header-spec : {M : Type 1} → statement M
 write-header-spec =
@@ -41,7 +41,7 @@ write-header-spec =
     returns
     returns-2
     header-requires
-    slice-aggregate-put
-    put-requires
+    slice-aggregate-copy
+    copy-requires
     same-length
     returns-3)

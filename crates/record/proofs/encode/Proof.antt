@@ -1,8 +1,8 @@
 -- Assumes nothing.
 use borrow.Author.Needs.{needs}
-use Rattle.record.specs.Record.{bytesOf}
-use Rattle.record.proofs.bytes.Statement.{statement}
-use Rattle.record.proofs.bytes.Tie as tie
+use Rattle.record.specs.Record.{encodeOf}
+use Rattle.record.proofs.encode.Statement.{statement}
+use Rattle.record.proofs.encode.Tie as tie
 
 enum-known-e : tie.Need-enum-known-e
 enum-known-e c = search needs
@@ -26,35 +26,35 @@ enum-told : tie.Need-enum-told
 enum-told c = search needs
 
 returns : tie.Need-returns
-unfolding bytesOf
+unfolding encodeOf
 returns c = rw (c .before .e .given .1)
 
 returns-2 : tie.Need-returns-2
-unfolding bytesOf
+unfolding encodeOf
 returns-2 c = rw (c .before .e2 .given .1)
 
 returns-3 : tie.Need-returns-3
-unfolding bytesOf
+unfolding encodeOf
 returns-3 c = rw (c .before .e3 .given .1)
 
 returns-4 : tie.Need-returns-4
-unfolding bytesOf
+unfolding encodeOf
 returns-4 c = rw (c .before .e4 .given .1)
 
 returns-5 : tie.Need-returns-5
-unfolding bytesOf
+unfolding encodeOf
 returns-5 c = rw (c .before .e5 .given .1)
 
 returns-6 : tie.Need-returns-6
-unfolding bytesOf
+unfolding encodeOf
 returns-6 c = rw (c .before .e6 .given .1)
 
 returns-7 : tie.Need-returns-7
-unfolding bytesOf
+unfolding encodeOf
 returns-7 c = rw (c .enum-told .given .1)
 
-pub bytes-spec : {M : Type 1} → statement M
-bytes-spec =
+pub encode-spec : {M : Type 1} → statement M
+encode-spec =
     tie.close
     (tie.spec
     enum-known-e
