@@ -1,0 +1,67 @@
+-- The two ways out of the bench's call, and that its promise has one answer: `one-run`.
+-- Assumes nothing.
+use Prim.Native.Nat.{ℕ, _+_, _*_, _/_, _≤_, _<_}
+use mathlib.Core.Path.{_≡_, refl, sym, ap, _∙_}
+use mathlib.Core.Bool.{Bool, true, false, cond}
+use mathlib.Core.List.{List}
+use native.Mathlib.Omega.{arith}
+use native.Mathlib.Decide.{decLt}
+use lib.Dec.{leb, eqb}
+use lib.ListN.{length, take}
+use borrow.Author.Tests.{leb-true, leb-false}
+use Rattle.capture.specs.declared.Reader.{Reader}
+use Rattle.capture.specs.declared.Fed.{Fed}
+use Rattle.capture.specs.Reader.{Out, freshOf, rangesOf, feedOf, callOf, endOf, finishOf, Meets}
+use Rattle.capture.specs.Whole.{Whole, wholeOf}
+use Rattle.capture.specs.Schedule.{Bytes}
+use Rattle.capture.proofs.Run.{runOf, run-ranges}
+use Rattle.capture.proofs.Rooms.{feed-fits, feed-short}
+use Rattle.capture.proofs.Cuts.{fresh-ranges}
+use Rattle.capture.proofs.Sections.{outcome, whole-run, whole-finishing}
+use Rattle.capture.proofs.Counts.{written-small}
+use Rattle.laws.proofs.Choices.{by-test}
+use Rattle.bench.specs.Bench.{Bench, lastOf, benchOf, Ran}
+
+-- ---- the call against the whole-capture definition
+
+-- with room for every answer
+module _ (xs : List ℕ) (room : ℕ) (fits : length (wholeOf xs .answers) ≤ room) where
+  call-fits : callOf freshOf xs room ≡ outcome (wholeOf xs)
+  call-fits =
+      let run = whole-run xs in
+      rw fresh-ranges (feed-fits freshOf xs room (rw (ap (λ (o : Out). length (o .answers)) run) fits) ∙ run)
+
+  end-fits : Bytes xs → finishOf (callOf freshOf xs room .reader) ≡ wholeOf xs .finishing
+  end-fits k =
+      let ranged : rangesOf (wholeOf xs .reader) ≡ true = rw (ap (λ (o : Out). rangesOf (o .reader)) (whole-run xs)) at (run-ranges freshOf xs k fresh-ranges) in
+      rw (ap (λ (o : Out). o .reader) call-fits) (rw ranged (whole-finishing xs))
+
+-- ---- what the call returns
+
+-- a code and an end state that a call reports, as the bench reports them
+pub ran : (xs entry : List ℕ) {exit : List ℕ} (fed : Fed) → Bytes xs → Meets (callOf freshOf xs (length entry)) fed entry exit
+    → Ran (benchOf xs (length entry)) (fed .written * 16 + lastOf (fed .code) (fed .reader)) entry exit
+unfolding benchOf
+ran xs entry fed k m =
+    by-test (leb (length (wholeOf xs .answers)) (length entry))
+    (λ e.
+    let fits = leb-true (length (wholeOf xs .answers)) (length entry) e in
+    let call = call-fits xs (length entry) fits in
+    let same = rw call at m in
+    let end : finishOf (fed .reader) ≡ wholeOf xs .finishing = rw (m .reader) (end-fits xs (length entry) fits k) in
+    rw e (record { told = rw (same .written, same .code, end); buffer = same .buffer }))
+    (λ e.
+    let few = leb-false (length (wholeOf xs .answers)) (length entry) e in
+    let run = whole-run xs in
+    let s = feed-short freshOf xs (length entry) (rw (ap (λ (o : Out). length (o .answers)) run) few) in
+    let t = rw fresh-ranges at m in
+    let same : feedOf freshOf xs (length entry) .answers ≡ take (length entry / 2 * 2) (wholeOf xs .answers) = s .answers ∙ ap (λ (o : Out). take (length entry / 2 * 2) (o .answers)) run in
+    rw e (record { told = rw (t .written, t .code, s .code, same); buffer = rw same at (t .buffer) }))
+
+-- two results that meet the promise are equal, and so are their buffers
+pub one-run : {b : Bench} {r s : ℕ} {entry exit exit′ : List ℕ} → Ran b r entry exit → Ran b s entry exit′ → (r ≡ s) × (exit ≡ exit′)
+one-run p q = (p .told ∙ sym (q .told), p .buffer ∙ sym (q .buffer))
+
+-- a whole capture writes fewer than 2 ^ 33 answer bytes, so the result fits
+pub small : (xs entry : List ℕ) {exit : List ℕ} (fed : Fed) → Bytes xs → Meets (callOf freshOf xs (length entry)) fed entry exit → fed .written < 8589934592
+small xs entry fed k m = rw (m .written) (written-small xs (length entry) k)
