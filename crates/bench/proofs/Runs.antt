@@ -1,20 +1,17 @@
 -- The two ways out of the bench's call, and that its promise has one answer: `one-run`.
 -- Assumes nothing.
 use Prim.Native.Nat.{ℕ, _+_, _*_, _/_, _≤_, _<_}
-use mathlib.Core.Path.{_≡_, refl, sym, ap, _∙_}
-use mathlib.Core.Bool.{Bool, true, false, cond}
+use mathlib.Core.Path.{_≡_, sym, ap, _∙_}
+use mathlib.Core.Bool.{true}
 use mathlib.Core.List.{List}
-use native.Mathlib.Omega.{arith}
-use native.Mathlib.Decide.{decLt}
-use lib.Dec.{leb, eqb}
+use lib.Dec.{leb}
 use lib.ListN.{length, take}
 use borrow.Author.Tests.{leb-true, leb-false}
-use Rattle.capture.specs.declared.Reader.{Reader}
 use Rattle.capture.specs.declared.Fed.{Fed}
-use Rattle.capture.specs.Reader.{Out, freshOf, rangesOf, feedOf, callOf, endOf, finishOf, Meets}
-use Rattle.capture.specs.Whole.{Whole, wholeOf}
+use Rattle.capture.specs.Reader.{Out, freshOf, rangesOf, feedOf, callOf, finishOf, Meets}
+use Rattle.capture.specs.Whole.{wholeOf}
 use Rattle.capture.specs.Schedule.{Bytes}
-use Rattle.capture.proofs.Run.{runOf, run-ranges}
+use Rattle.capture.proofs.Run.{run-ranges}
 use Rattle.capture.proofs.Rooms.{feed-fits, feed-short}
 use Rattle.capture.proofs.Cuts.{fresh-ranges}
 use Rattle.capture.proofs.Sections.{outcome, whole-run, whole-finishing}

@@ -44,6 +44,13 @@ of-ranges s r =
 pub below-limit : (s : Reader) → rangesOf s ≡ true → s .count < limitOf (s .head)
 below-limit s h = ltb-true _ _ (ranges s h .place .1 .1 .1 .1 .1 .1 .0)
 
+-- in the header nothing is carried and nothing is done
+pub idle : (s : Reader) → rangesOf s ≡ true → s .head < 6 → eqb (s .carried) 0 ≡ true
+idle s h l = simp (ne-eqb (s .head) 6 (λ e. omega arith), or-false) at (ranges s h .place .1 .1 .0)
+
+pub none : (s : Reader) → rangesOf s ≡ true → s .head < 6 → eqb (s .done) 0 ≡ true
+none s h l = simp (ne-eqb (s .head) 6 (λ e. omega arith)) at (ranges s h .place .1 .1 .1 .1 .1 .1 .1 .1 .0)
+
 -- ---- the record count so far
 
 -- a number of header bytes, below the header's length
@@ -85,19 +92,12 @@ module _ (s : Reader) (b : ℕ) (small : b < 256) (h : rangesOf s ≡ true) wher
   p : Each (placeTests s)
   p = r .place
 
-  -- in the header nothing is carried and nothing is done
-  idle : s .head < 6 → eqb (s .carried) 0 ≡ true
-  idle l = simp (ne-eqb (s .head) 6 (λ e. omega arith), or-false) at (p .1 .1 .0)
-
-  none : s .head < 6 → eqb (s .done) 0 ≡ true
-  none l = simp (ne-eqb (s .head) 6 (λ e. omega arith)) at (p .1 .1 .1 .1 .1 .1 .1 .1 .0)
-
   opened-ranges : s .head ≡ 0 → rangesOf (openedOf s) ≡ true
   opened-ranges z =
       let l : s .head < 6 = omega arith in
       of-ranges (openedOf s)
       (record {
-        place = (refl, (p .1 .0, (simp (idle l), (p .1 .1 .1 .0, (p .1 .1 .1 .1 .0, (p .1 .1 .1 .1 .1 .0, (rw z at (p .1 .1 .1 .1 .1 .1 .0), (p .1 .1 .1 .1 .1 .1 .1 .0, (none l, tt)))))))));
+        place = (refl, (p .1 .0, (simp (idle s h l), (p .1 .1 .1 .0, (p .1 .1 .1 .1 .0, (p .1 .1 .1 .1 .1 .0, (rw z at (p .1 .1 .1 .1 .1 .1 .0), (p .1 .1 .1 .1 .1 .1 .1 .0, (none s h l, tt)))))))));
         held = r .held;
         sensor = early-ranges (s .head) (s .device) (r .sensor);
       })
@@ -107,7 +107,7 @@ module _ (s : Reader) (b : ℕ) (small : b < 256) (h : rangesOf s ≡ true) wher
       let l : s .head < 6 = omega arith in
       of-ranges (poweredOf s b)
       (record {
-        place = (refl, (p .1 .0, (simp (idle l), (p .1 .1 .1 .0, (p .1 .1 .1 .1 .0, (p .1 .1 .1 .1 .1 .0, (rw z at (p .1 .1 .1 .1 .1 .1 .0), (p .1 .1 .1 .1 .1 .1 .1 .0, (none l, tt)))))))));
+        place = (refl, (p .1 .0, (simp (idle s h l), (p .1 .1 .1 .0, (p .1 .1 .1 .1 .0, (p .1 .1 .1 .1 .1 .0, (rw z at (p .1 .1 .1 .1 .1 .1 .0), (p .1 .1 .1 .1 .1 .1 .1 .0, (none s h l, tt)))))))));
         held = r .held;
         sensor = powered-ranges 2 b e;
       })
@@ -116,7 +116,7 @@ module _ (s : Reader) (b : ℕ) (small : b < 256) (h : rangesOf s ≡ true) wher
   counted-ranges m l =
       of-ranges (countedOf s b)
       (record {
-        place = (le-leb (s .head + 1) 6 (omega arith), (p .1 .0, (simp (idle l), (p .1 .1 .1 .0, (p .1 .1 .1 .1 .0, (p .1 .1 .1 .1 .1 .0, (lt-ltb _ _ (limit-next (s .head) l m (s .count) b (ltb-true _ _ (p .1 .1 .1 .1 .1 .1 .0)) small), (rw (eqb-true (s .done) 0 (none l)) (le-leb 0 (s .count * 256 + b) zero-le), (simp (none l, or-true), tt)))))))));
+        place = (le-leb (s .head + 1) 6 (omega arith), (p .1 .0, (simp (idle s h l), (p .1 .1 .1 .0, (p .1 .1 .1 .1 .0, (p .1 .1 .1 .1 .1 .0, (lt-ltb _ _ (limit-next (s .head) l m (s .count) b (ltb-true _ _ (p .1 .1 .1 .1 .1 .1 .0)) small), (rw (eqb-true (s .done) 0 (none s h l)) (le-leb 0 (s .count * 256 + b) zero-le), (simp (none s h l, or-true), tt)))))))));
         held = r .held;
         sensor = later-ranges (s .head) (s .head + 1) (s .device) m (r .sensor);
       })

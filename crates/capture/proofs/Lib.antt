@@ -9,3 +9,6 @@ pub mod Ends
 pub mod Rooms
 pub mod Counts
 pub mod Written
+pub mod Judging
+pub mod Leading
+pub mod Codes

@@ -38,19 +38,19 @@ module _ (s : Reader) {s′ : Reader} (b : ℕ) (bs : List ℕ) (e : turnOf s b 
 -- in the records: where some are left, three bytes are carried and the fourth is judgedOf; where none is left, a byte is refused
 module _ (n k : ℕ) (d : Sensor) where
   module _ (e : ltb k n ≡ true) where
-    first : (x : ℕ) → turnOf (among n k d []) x ≡ quietOf (among n k d (x ∷ []))
+    pub first : (x : ℕ) → turnOf (among n k d []) x ≡ quietOf (among n k d (x ∷ []))
     unfolding turnOf
     first x = simp e
 
-    second : (x a : ℕ) → turnOf (among n k d (x ∷ [])) a ≡ quietOf (among n k d (x ∷ a ∷ []))
+    pub second : (x a : ℕ) → turnOf (among n k d (x ∷ [])) a ≡ quietOf (among n k d (x ∷ a ∷ []))
     unfolding turnOf
     second x a = simp e
 
-    third : (x a b : ℕ) → turnOf (among n k d (x ∷ a ∷ [])) b ≡ quietOf (among n k d (x ∷ a ∷ b ∷ []))
+    pub third : (x a b : ℕ) → turnOf (among n k d (x ∷ a ∷ [])) b ≡ quietOf (among n k d (x ∷ a ∷ b ∷ []))
     unfolding turnOf
     third x a b = simp e
 
-    fourth : (x a b c : ℕ) → turnOf (among n k d (x ∷ a ∷ b ∷ [])) c ≡ judgedOf (among n k d (x ∷ a ∷ b ∷ [])) (decodeOf x a b c)
+    pub fourth : (x a b c : ℕ) → turnOf (among n k d (x ∷ a ∷ b ∷ [])) c ≡ judgedOf (among n k d (x ∷ a ∷ b ∷ [])) (decodeOf x a b c)
     unfolding turnOf recordOf
     fourth x a b c = simp e
 
@@ -63,13 +63,15 @@ module _ (n k : ℕ) (d : Sensor) where
     three-in : (x a b : ℕ) (ys : List ℕ) → runOf (among n k d []) (x ∷ a ∷ b ∷ ys) ≡ joinOf 3 [] (runOf (among n k d (x ∷ a ∷ b ∷ [])) ys)
     three-in x a b ys = two-in x a (b ∷ ys) ∙ ap (joinOf 2 []) (taken _ b ys (third x a b) refl) ∙ join-join 2 1 [] [] (runOf (among n k d (x ∷ a ∷ b ∷ [])) ys)
 
-  full : ltb k n ≡ false → (x : ℕ) (ys : List ℕ) → runOf (among n k d []) (x ∷ ys) ≡ stopOf (holdOf (among n k d []) 5)
-  full e x ys = refused _ x ys (over-all x) (λ z. omega arith)
-    where
-      over-all : (x : ℕ) → turnOf (among n k d []) x ≡ quietOf (holdOf (among n k d []) 5)
-      over-all x = unfold turnOf in simp e
+  module _ (e : ltb k n ≡ false) (x : ℕ) where
+    pub past : turnOf (among n k d []) x ≡ quietOf (holdOf (among n k d []) 5)
+    unfolding turnOf
+    past = simp e
 
-lasting : (why : Refusal) → codeOf (Refused why) ≡ 0 → ⊥
+    full : (ys : List ℕ) → runOf (among n k d []) (x ∷ ys) ≡ stopOf (holdOf (among n k d []) 5)
+    full ys = refused _ x ys past (λ z. omega arith)
+
+pub lasting : (why : Refusal) → codeOf (Refused why) ≡ 0 → ⊥
 unfolding codeOf
 lasting Kind z = omega arith
 lasting Operand z = omega arith

@@ -2,6 +2,7 @@ pub mod Pins
 pub mod Bus
 pub mod Ranges
 pub mod Step
+pub mod Codes
 pub mod Profile
 pub mod Run
 pub mod Refusals

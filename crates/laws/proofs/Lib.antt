@@ -1,3 +1,4 @@
 pub mod Choices
 pub mod OneAnswer
+pub mod Exactly
 pub mod Tables

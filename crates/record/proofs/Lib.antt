@@ -1,2 +1,4 @@
 pub mod Writings
 pub mod RoundTrip
+pub mod Known
+pub mod Codes

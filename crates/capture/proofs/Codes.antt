@@ -1,0 +1,114 @@
+-- The table of codes, both ways. `exactly`: a call gives a code exactly if its line of the table says so, whatever the state (of three
+-- places for carried bytes, as every `Reader` has), the bytes and the room. `finish-exactly`: the same of asking to finish.
+-- Assumes nothing.
+use Prim.Native.Nat.{ℕ}
+use mathlib.Core.Path.{_≡_, refl, _∙_}
+use mathlib.Core.Logic.{_↔_}
+use mathlib.Core.List.{List, [], _∷_, _++_}
+use mathlib.Core.Bool.{_&&_}
+use lib.Dec.{eqb}
+use lib.ListN.{length}
+use borrow.Author.Tests.{eqb-true, eqb-false, eq-eqb, ne-eqb}
+use Rattle.laws.proofs.Choices.{cond-ind, by-test, and-left, and-right}
+use Rattle.laws.proofs.Exactly.{by-lines}
+use Rattle.capture.specs.declared.Reader.{Reader}
+use Rattle.capture.specs.Sensor.{headerLength}
+use Rattle.capture.specs.Reader.{rangesOf, turnOf, feedOf, callOf, finishOf}
+use Rattle.capture.specs.Codes.{Ahead, aheadOf, carriedOf, Free, Gives, Finishes}
+use Rattle.capture.specs.Codes.Ahead.{badCount, badVariant, unfinished, complete}
+use Rattle.capture.proofs.Judging.{Lines, refused, ended, by-line, has-line}
+use Rattle.capture.proofs.Leading.{Leads, leads}
+
+-- ---- a call
+
+-- a state that holds a lasting code keeps it
+held-stays : (s : Reader) (xs : List ℕ) (room : ℕ) → (s .held ≡ 0 → ⊥) → feedOf s xs room .code ≡ s .held
+held-stays s [] room n = ended s room
+held-stays s (b ∷ xs) room n = refused s {s′ = s} b xs room (unfold turnOf in simp (ne-eqb (s .held) 0 n)) n
+
+module _ (s : Reader) (xs : List ℕ) (room : ℕ) (three : length (s .bytes) ≡ 3) where
+  -- what is ahead decides the code
+  leads-to : {a : Ahead} → Free s → aheadOf s xs ≡ a → Leads (callOf s xs room .code) (s .done) (carriedOf s) room a
+  leads-to f e = rw (f .ranges) (rw e at (leads s three f xs room))
+
+  -- a line of the records gives its code, and is a line of the table
+  in-lines : {n code : ℕ} {l : List ℕ} → Free s → aheadOf s xs ≡ complete n l → Lines n (s .done) (carriedOf s ++ l) room code → callOf s xs room .code ≡ code
+  unfolding Leads
+  in-lines {n} {code} {l} f e m = let t = leads-to f e in t .1 ∙ by-line n (s .done) (t .0) (carriedOf s ++ l) room code m
+
+  of-line : {n code : ℕ} {l : List ℕ} → Free s → aheadOf s xs ≡ complete n l → Lines n (s .done) (carriedOf s ++ l) room code → Gives s xs room code
+  of-line f e (Lines.kind m u) = Gives.kind f e m u
+  of-line f e (Lines.operand m r) = Gives.operand f e m r
+  of-line f e (Lines.past-end p) = Gives.past-end f e p
+  of-line f e (Lines.no-room m v h) = Gives.no-room f e m v h
+  of-line f e (Lines.in-records d) = Gives.in-records f e d
+
+  -- each line gives its code
+  pub gives : (code : ℕ) → Gives s xs room code → callOf s xs room .code ≡ code
+  unfolding Leads
+  gives _ (Gives.out-of-ranges o) = simp o
+  gives _ (Gives.held h n) = simp h (held-stays s xs room n)
+  gives _ (Gives.device-count f e) = leads-to f e
+  gives _ (Gives.variant f e) = leads-to f e
+  gives _ (Gives.kind f e m u) = in-lines f e (Lines.kind m u)
+  gives _ (Gives.operand f e m r) = in-lines f e (Lines.operand m r)
+  gives _ (Gives.past-end f e p) = in-lines f e (Lines.past-end p)
+  gives _ (Gives.no-room f e m v h) = in-lines f e (Lines.no-room m v h)
+  gives _ (Gives.in-header f e) = leads-to f e
+  gives _ (Gives.in-records f e d) = in-lines f e (Lines.in-records d)
+
+  -- the code given has a line if any code has one
+  told : {code : ℕ} → Gives s xs room code → Gives s xs room (callOf s xs room .code)
+  told {code} g = rw (gives code g) g
+
+  by-ahead : Free s → (a : Ahead) → aheadOf s xs ≡ a → Gives s xs room (callOf s xs room .code)
+  by-ahead f badCount e = told (Gives.device-count f e)
+  by-ahead f badVariant e = told (Gives.variant f e)
+  by-ahead f unfinished e = told (Gives.in-header f e)
+  by-ahead f (complete n l) e = told (of-line f e (has-line n (s .done) (s .device) (carriedOf s ++ l) room))
+
+  pub given : Gives s xs room (callOf s xs room .code)
+  given =
+      by-test (rangesOf s)
+      (λ h. by-test (eqb (s .held) 0)
+      (λ z. by-ahead (record { ranges = h; none = eqb-true (s .held) 0 z }) (aheadOf s xs) refl)
+      (λ n. told (Gives.held h (eqb-false (s .held) 0 n))))
+      (λ o. told (Gives.out-of-ranges o))
+
+  pub exactly : (code : ℕ) → (callOf s xs room .code ≡ code) ↔ Gives s xs room code
+  exactly = by-lines (Gives s xs room) _ given gives
+
+-- ---- asked to finish
+
+module _ (s : Reader) where
+  pub finishes : (code : ℕ) → Finishes s code → finishOf s ≡ code
+  finishes _ (Finishes.out-of-ranges o) = simp o
+  finishes _ (Finishes.held h n) = simp (h, ne-eqb (s .held) 0 n)
+  finishes _ (Finishes.before-end f n) =
+      let h = eqb (s .head) headerLength in
+      let d = eqb (s .done) (s .count) in
+      simp (f .ranges, f .none) (cond-ind (λ (code : ℕ). code ≡ 6) (h && d) (λ e. absurd (n (eqb-true _ _ (and-left h d e)) (eqb-true _ _ (and-right h d e)))) (λ _. refl))
+  finishes _ (Finishes.at-end f h d) = simp (f .ranges, f .none, h, d, eq-eqb)
+
+  -- the same of finishing
+  told-end : {code : ℕ} → Finishes s code → Finishes s (finishOf s)
+  told-end {code} g = rw (finishes code g) g
+
+  pub finished-as : Finishes s (finishOf s)
+  finished-as =
+      by-test (rangesOf s)
+      (λ h. by-test (eqb (s .held) 0)
+      (λ z. free (record { ranges = h; none = eqb-true (s .held) 0 z }))
+      (λ n. told-end (Finishes.held h (eqb-false (s .held) 0 n))))
+      (λ o. told-end (Finishes.out-of-ranges o))
+    where
+      free : Free s → Finishes s (finishOf s)
+      free f =
+          by-test (eqb (s .head) headerLength)
+          (λ h. by-test (eqb (s .done) (s .count))
+          (λ d. told-end (Finishes.at-end f (eqb-true _ _ h) (eqb-true _ _ d)))
+          (λ d. told-end (Finishes.before-end f (λ _. eqb-false _ _ d))))
+          (λ h. told-end (Finishes.before-end f (λ e _. eqb-false _ _ h e)))
+
+  pub finish-exactly : (code : ℕ) → (finishOf s ≡ code) ↔ Finishes s code
+  finish-exactly = by-lines (Finishes s) (finishOf s) finished-as finishes
