@@ -1,58 +1,54 @@
--- The program's three tables against the page, each by one computed comparison of all its entries.
+-- The program's tests of a register number against the page, each by one computed comparison over the 256 numbers.
 -- Assumes nothing.
 use mathlib.Core.Path.{_≡_, refl, ap, _∙_}
-use mathlib.Core.Bool.{Bool, true, false, cond}
-use Prim.Native.Nat.{ℕ, zero, suc, _<_, _≤_}
+use mathlib.Core.Bool.{Bool, true, false, cond, _&&_, _||_}
+use Prim.Native.Nat.{ℕ, zero, suc, _-_, _<_, _≤_}
 use native.Mathlib.Omega.{arith}
-use lib.Dec.{eqb, ltb}
-use borrow.Author.Tests.{lt-ltb, le-ltb}
+use lib.Dec.{eqb, leb}
+use borrow.Author.Tests.{leb-true}
+use Rattle.laws.proofs.Choices.{and-left}
 use Rattle.laws.proofs.Tables.{agree}
 use Rattle.registers.specs.declared.Position.{Position}
 use Rattle.registers.specs.declared.Position.the-variants.{At, Nowhere}
-use Rattle.registers.specs.Page.{Default, everyVariant, each, column, page, readOnlyIn, readableOf, writableOf, writePositionOf, readPositionOf, readOnlyOf}
-
--- ---- what an entry says
-
-abbrev entryOf : Position → Bool → ℕ
-entryOf (At i) right = i
-entryOf Nowhere right = cond right 14 15
-
-abbrev positionOf : ℕ → Position
-positionOf n = cond (ltb n 14) (At n) Nowhere
-
-abbrev pub readEntry : ℕ → ℕ
-readEntry r = entryOf (readPositionOf r) (readableOf r)
-
-abbrev pub writeEntry : ℕ → ℕ
-writeEntry r = entryOf (writePositionOf r) (writableOf r)
+use Rattle.registers.specs.Page.{Default, everyVariant, each, column, page, readOnlyIn, readableOf, writableOf, writePositionOf, readPositionOf, sharedPositionOf, keptOf, readOnlyOf}
 
 -- ---- the right to read and to write
 
-pub read-right : (r : ℕ) → r < 256 → ltb (readEntry r) 15 ≡ readableOf r
-unfolding readPositionOf readableOf
-read-right = agree (λ r. ltb (readEntry r) 15) readableOf 256 refl
+pub read-right : (r : ℕ) → r < 256 → (leb r 0x08 || (leb 0x10 r && leb r 0x14) || eqb r 0x19 || (leb 0x20 r && leb r 0x21) || eqb r 0xBF || leb 0xFE r) ≡ readableOf r
+unfolding readableOf
+read-right = agree (λ r. leb r 0x08 || (leb 0x10 r && leb r 0x14) || eqb r 0x19 || (leb 0x20 r && leb r 0x21) || eqb r 0xBF || leb 0xFE r) readableOf 256 refl
 
-pub write-right : (r : ℕ) → r < 256 → ltb (writeEntry r) 15 ≡ writableOf r
-unfolding writePositionOf writableOf
-write-right = agree (λ r. ltb (writeEntry r) 15) writableOf 256 refl
+pub write-right : (r : ℕ) → r < 256 → ((leb 0x09 r && leb r 0x0F) || (leb 0x11 r && leb r 0x14) || eqb r 0x19 || (leb 0x20 r && leb r 0x21) || eqb r 0xBF) ≡ writableOf r
+unfolding writableOf
+write-right = agree (λ r. (leb 0x09 r && leb r 0x0F) || (leb 0x11 r && leb r 0x14) || eqb r 0x19 || (leb 0x20 r && leb r 0x21) || eqb r 0xBF) writableOf 256 refl
 
 -- ---- the position
 
-pub read-place : (r : ℕ) → r < 256 → positionOf (readEntry r) ≡ readPositionOf r
-unfolding readPositionOf readableOf
-read-place = agree (λ r. positionOf (readEntry r)) readPositionOf 256 refl
+abbrev sharedChoice : ℕ → Position
+sharedChoice r =
+    cond (leb 0x11 r && leb r 0x14) (At (r - 0x0B))
+    (cond (eqb r 0x19) (At 10)
+    (cond (leb 0x20 r && leb r 0x21) (At (r - 0x15))
+    (cond (eqb r 0xBF) (At 13) Nowhere)))
 
-pub write-place : (r : ℕ) → r < 256 → positionOf (writeEntry r) ≡ writePositionOf r
-unfolding writePositionOf writableOf
-write-place = agree (λ r. positionOf (writeEntry r)) writePositionOf 256 refl
+pub shared-place : (r : ℕ) → r < 256 → sharedChoice r ≡ sharedPositionOf r
+unfolding sharedPositionOf readPositionOf
+shared-place = agree sharedChoice sharedPositionOf 256 refl
 
--- an entry n below 14 is a position, any other is none
-module _ {n m : ℕ} {p : Position} (e : n ≡ m) (place : positionOf m ≡ p) where
-  pub stands : n < 14 → At n ≡ p
-  stands h = rw (← e, lt-ltb n 14 h) at place
+pub read-place : (r : ℕ) → r < 256 → cond (leb 0x03 r && leb r 0x08) (At (r - 0x03)) (sharedPositionOf r) ≡ readPositionOf r
+unfolding sharedPositionOf readPositionOf
+read-place = agree (λ r. cond (leb 0x03 r && leb r 0x08) (At (r - 0x03)) (sharedPositionOf r)) readPositionOf 256 refl
 
-  pub nowhere : 14 ≤ n → Nowhere ≡ p
-  nowhere h = rw (← e, le-ltb n 14 h) at place
+pub write-place : (r : ℕ) → r < 256 → cond (leb 0x09 r && leb r 0x0E) (At (r - 0x09)) (sharedPositionOf r) ≡ writePositionOf r
+unfolding sharedPositionOf readPositionOf writePositionOf
+write-place = agree (λ r. cond (leb 0x09 r && leb r 0x0E) (At (r - 0x09)) (sharedPositionOf r)) writePositionOf 256 refl
+
+-- ---- kept bits
+
+pub kept-bits : (r : ℕ) → r < 256
+    → cond (eqb r 0x03 || eqb r 0x09) 0xD5 (cond (leb 0x12 r && leb r 0x14) 0xE0 (cond (eqb r 0x21) 0x1F (cond (eqb r 0xBF) 0x07 0xFF))) ≡ keptOf r
+unfolding keptOf
+kept-bits = agree (λ r. cond (eqb r 0x03 || eqb r 0x09) 0xD5 (cond (leb 0x12 r && leb r 0x14) 0xE0 (cond (eqb r 0x21) 0x1F (cond (eqb r 0xBF) 0x07 0xFF)))) keptOf 256 refl
 
 -- ---- power-on
 
@@ -90,3 +86,8 @@ read-only-else v r h a b =
   where
     choice : (s t : Bool) → s ≡ false → t ≡ false → cond s (everyVariant 0x01) (cond t (each 0x31 0x34 0x35) (everyVariant 0)) ≡ everyVariant 0
     choice s t p q = rw (p, q)
+
+-- ---- a number in a range
+
+pub at-least : (low high r : ℕ) → (leb low r && leb r high) ≡ true → low ≤ r
+at-least low high r e = leb-true low r (and-left (leb low r) (leb r high) e)

@@ -1,8 +1,6 @@
 // The registers: which are readable and writable, the fourteen settable bytes, kept bits and power-on bytes.
 ghost use mathlib.Core.Path.{_≡_};
-ghost use Rattle.registers.specs.Page.{readableOf, writableOf, knownOf, writePositionOf, readPositionOf, keptOf, powerOnOf, readOnlyOf, addressOf};
-
-mod tables;
+ghost use Rattle.registers.specs.Page.{readableOf, writableOf, knownOf, sharedPositionOf, writePositionOf, readPositionOf, keptOf, powerOnOf, readOnlyOf, addressOf};
 
 // Where a settable register's byte stands among the fourteen.
 pub enum Position {
@@ -40,16 +38,27 @@ pub const ONE_SHOT: u8 = 0x0F;
 
 pub const STATUS: u8 = 0x02;
 
+// 00 to 08, 10 to 14, 19, 20, 21, BF, FE, FF.
 pub fn readable(reg: u8) -> bool
     ensures { λ r. ⌜ r ≡ readableOf reg ⌝ }
 {
-    tables::READ[reg as usize] < 15
+    (reg <= 0x08)
+        | ((0x10 <= reg) & (reg <= 0x14))
+        | (reg == 0x19)
+        | ((0x20 <= reg) & (reg <= 0x21))
+        | (reg == 0xBF)
+        | (0xFE <= reg)
 }
 
+// 09 to 0F, 11 to 14, 19, 20, 21, BF.
 pub fn writable(reg: u8) -> bool
     ensures { λ r. ⌜ r ≡ writableOf reg ⌝ }
 {
-    tables::WRITE[reg as usize] < 15
+    ((0x09 <= reg) & (reg <= 0x0F))
+        | ((0x11 <= reg) & (reg <= 0x14))
+        | (reg == 0x19)
+        | ((0x20 <= reg) & (reg <= 0x21))
+        | (reg == 0xBF)
 }
 
 // In R or W.
@@ -59,32 +68,60 @@ pub fn known(reg: u8) -> bool
     readable(reg) | writable(reg)
 }
 
+// The registers from 11 on are read and written at one number.
+fn shared_position(reg: u8) -> Position
+    ensures { λ r. ⌜ r ≡ sharedPositionOf reg ⌝ }
+{
+    if (0x11 <= reg) & (reg <= 0x14) {
+        Position::At(reg - 0x0B)
+    } else if reg == 0x19 {
+        Position::At(10)
+    } else if (0x20 <= reg) & (reg <= 0x21) {
+        Position::At(reg - 0x15)
+    } else if reg == 0xBF {
+        Position::At(13)
+    } else {
+        Position::Nowhere
+    }
+}
+
+// 09 to 0E are the first six.
 pub fn write_position(reg: u8) -> Position
     ensures { λ r. ⌜ r ≡ writePositionOf reg ⌝ }
 {
-    let i = tables::WRITE[reg as usize];
-    if i < 14 {
-        Position::At(i)
+    if (0x09 <= reg) & (reg <= 0x0E) {
+        Position::At(reg - 0x09)
     } else {
-        Position::Nowhere
+        shared_position(reg)
     }
 }
 
+// 03 to 08 are the first six.
 pub fn read_position(reg: u8) -> Position
     ensures { λ r. ⌜ r ≡ readPositionOf reg ⌝ }
 {
-    let i = tables::READ[reg as usize];
-    if i < 14 {
-        Position::At(i)
+    if (0x03 <= reg) & (reg <= 0x08) {
+        Position::At(reg - 0x03)
     } else {
-        Position::Nowhere
+        shared_position(reg)
     }
 }
 
+// The bits that a register keeps, by either of its numbers.
 pub fn kept(reg: u8) -> u8
     ensures { λ r. ⌜ r ≡ keptOf reg ⌝ }
 {
-    tables::KEPT[reg as usize]
+    if (reg == 0x03) | (reg == 0x09) {
+        0xD5
+    } else if (0x12 <= reg) & (reg <= 0x14) {
+        0xE0
+    } else if reg == 0x21 {
+        0x1F
+    } else if reg == 0xBF {
+        0x07
+    } else {
+        0xFF
+    }
 }
 
 // The fourteen bytes at power-on; none but variants 1 to 3 has a table.

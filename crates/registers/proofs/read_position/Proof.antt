@@ -1,25 +1,22 @@
 -- Assumes nothing.
 use borrow.Author.Needs.{needs}
-use Rattle.laws.proofs.Tables.{entry}
-use Rattle.registers.specs.Page.{readableOf, readPositionOf}
-use Rattle.registers.proofs.Entries.{readEntry, read-place, stands, nowhere}
+use native.Mathlib.Omega.{arith}
+use mathlib.Core.Path.{_∙_}
+use Rattle.registers.proofs.Entries.{read-place, at-least}
 use Rattle.registers.proofs.read_position.Statement.{statement}
 use Rattle.registers.proofs.read_position.Tie as tie
 
-array-read-i : tie.Need-array-read-i
-array-read-i c = search needs
+sub-t6 : tie.Need-sub-t6
+sub-t6 c = omega (arith, at-least 0x03 0x08 (c .before .args .reg) (c .if1 .taken))
+
+shared-position-requires : tie.Need-shared-position-requires
+shared-position-requires c κs = search needs
 
 returns : tie.Need-returns
-unfolding readableOf readPositionOf
-returns c =
-    let a = c .before in
-    stands (entry 0 readEntry 256 (a .args .reg) (a .fits .reg .fits)) (read-place (a .args .reg) (a .fits .reg .fits)) (c .if1 .taken)
+returns c = rw (c .if1 .taken) at (read-place (c .before .args .reg) (c .before .fits .reg .fits))
 
 returns-2 : tie.Need-returns-2
-unfolding readableOf readPositionOf
-returns-2 c =
-    let a = c .before in
-    nowhere (entry 0 readEntry 256 (a .args .reg) (a .fits .reg .fits)) (read-place (a .args .reg) (a .fits .reg .fits)) (c .if1 .left)
+returns-2 c = c .shared-position .ensures ∙ (rw (c .before .if1 .left) at (read-place (c .before .before .args .reg) (c .before .before .fits .reg .fits)))
 
 pub read-position-spec : {M : Type 1} → statement M
-read-position-spec = tie.close (tie.spec array-read-i returns returns-2)
+read-position-spec = tie.close (tie.spec sub-t6 shared-position-requires returns returns-2)
