@@ -2,6 +2,7 @@
 ghost use mathlib.Core.Path.{_≡_};
 ghost use mathlib.Core.Bool.{true};
 ghost use Prim.Native.Nat.{_<_};
+ghost use lib.ListN.{set};
 ghost use Rattle.capture.specs.Reader.{holdOf, quietOf, headOf, carryOf, recordOf, turnOf, rangesOf};
 use super::Reader;
 use super::Turn;
@@ -59,13 +60,32 @@ fn head_byte(s: Reader, b: u8) -> Reader
     next
 }
 
+// A byte at one of three places, each by a constant index, so that the state stays in registers.
+fn placed(q: [u8; 3], at: u8, b: u8) -> [u8; 3]
+    requires { ⌜ at < 3 ⌝ }
+    ensures { λ r. ⌜ r ≡ set q at b ⌝ }
+{
+    let mut n = q;
+    if at == 0 {
+        n[0] = b;
+        return n;
+    }
+    if at == 1 {
+        n[1] = b;
+        return n;
+    }
+    n[2] = b;
+    n
+}
+
 fn carry(s: Reader, b: u8) -> Reader
     requires { ⌜ s .carried < 3 ⌝ }
     ensures { λ r. ⌜ r ≡ carryOf s b ⌝ }
 {
+    let q = s.bytes;
     let mut next = s;
-    let at = s.carried as usize;
-    next.bytes[at] = b;
+    let bytes = placed(q, s.carried, b);
+    next.bytes = bytes;
     next.carried = s.carried + 1;
     next
 }
