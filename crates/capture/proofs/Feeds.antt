@@ -1,34 +1,43 @@
 -- The loop of `feed`, as mathematics: what holds at each turn, and what each way out gives.
 -- Assumes nothing.
-use Prim.Native.Nat.{ℕ, _+_, _-_, _≤_, _<_}
+use Prim.Native.Nat.{ℕ, suc, _+_, _-_, _^_, _≤_, _<_}
 use mathlib.Core.Path.{_≡_, refl, ap, _∙_}
 use mathlib.Core.List.{List, [], _∷_, _++_, append-nil}
 use mathlib.Core.Bool.{true, false}
 use native.Mathlib.Omega.{arith}
 use native.Mathlib.Numerals.{add-one}
-use native.Mathlib.Nat.{add-zero, sub-zero, zero-add, sub-add-eq}
+use native.Mathlib.Nat.{le-refl, add-zero, sub-zero, zero-add, sub-add-eq}
 use lib.ListN.{length, getD, set, take, drop, take-append-drop, length-append, length-drop, drop-of-length-le}
 use lib.Seq.{drop-cons, length-take-le, drop-drop, drop-at, take-append-add, take-all}
+use mathlib.Core.Logic.{_⊎_, inl, inr, ⊎-elim}
+use native.Mathlib.Decide.{decLt}
+use Rattle.laws.proofs.Choices.{by-test}
+use Rattle.capture.proofs.Three.{begins, three-ahead, three-ranges, stays, too-short, carries}
 use borrow.Rule.Slice.PartMut.{putMid}
 use borrow.Author.Tests.{ne-eqb, lt-leb}
 use Rattle.capture.specs.declared.Reader.{Reader}
+use Rattle.capture.specs.declared.Ahead.{Ahead}
 use Rattle.capture.specs.declared.Turn.{Turn}
 use Rattle.capture.specs.declared.Fed.{Fed}
 use Rattle.capture.proofs.Outcomes.{join-join, feed-on}
-use Rattle.capture.specs.Reader.{rangesOf, turnOf, pairOf, feedOf, callOf, Out, refuseOf, joinOf, Meets}
+use Rattle.capture.specs.Reader.{beginsOf, threeOf, aheadOf, rangesOf, turnOf, pairOf, feedOf, callOf, Out, refuseOf, joinOf, Meets}
 
 -- what is known at the loop's head: the call's outcome is what has been done, and then that of the rest
 pub record Going (s₀ : Reader) (input entry answers : List ℕ) (s : Reader) (at written : ℕ) : Type 0 where
   pub ok : rangesOf s ≡ true
+  pub input-fits : length input < 2 ^ 64
+  pub entry-fits : length entry < 2 ^ 64
   pub within : at ≤ length input
   pub room : written ≤ length entry
   pub long : length answers ≡ length entry
   pub rest : drop written answers ≡ drop written entry
   pub same : feedOf s₀ input (length entry) ≡ joinOf at (take written answers) (feedOf s (drop at input) (length entry - written))
 
-pub start : (s : Reader) (input entry : List ℕ) → rangesOf s ≡ true → Going s input entry entry s 0 0
-start s input entry h = record {
+pub start : (s : Reader) (input entry : List ℕ) → length input < 2 ^ 64 → length entry < 2 ^ 64 → rangesOf s ≡ true → Going s input entry entry s 0 0
+start s input entry i e h = record {
   ok = h;
+  input-fits = i;
+  entry-fits = e;
   within = omega arith;
   room = omega arith;
   long = refl;
@@ -85,6 +94,8 @@ module _ {s₀ : Reader} {input entry answers : List ℕ} {s : Reader} {at writt
     pub silent : rangesOf (t .reader) ≡ true → t .reader .held ≡ 0 → t .pair ≡ false → Going s₀ input entry answers (t .reader) (at + 1) written
     silent k z p = record {
       ok = k;
+      input-fits = g .input-fits;
+      entry-fits = g .entry-fits;
       within = omega arith;
       room = g .room;
       long = g .long;
@@ -99,6 +110,8 @@ module _ {s₀ : Reader} {input entry answers : List ℕ} {s : Reader} {at writt
         let f : take (written + 2) after ≡ take written answers ++ (t .first ∷ t .second ∷ []) = rw e (front (take written answers) (t .first) (t .second) (drop 2 (drop written answers)) w) in
         record {
           ok = k;
+          input-fits = g .input-fits;
+          entry-fits = g .entry-fits;
           within = omega arith;
           room = omega (arith, g .long);
           long = rw e (simp (length-append, length-drop, w) (omega (arith, g .long)));
@@ -125,3 +138,53 @@ pub two : (l : List ℕ) (x y : ℕ) → 2 ≤ length l → set (set l 0 x) 1 y 
 two [] x y h = absurd (omega arith)
 two (a ∷ []) x y h = absurd (omega arith)
 two (a ∷ b ∷ l) x y h = refl
+
+three-bytes : (l : List ℕ) (at : ℕ) → at + 3 < length l → drop at l ≡ getD l at 0 ∷ getD l (at + 1) 0 ∷ getD l (at + 2) 0 ∷ drop (at + 3) l
+three-bytes l at h =
+    let one : at + 1 ≡ suc at = omega arith in
+    let two : at + 2 ≡ suc (suc at) = omega arith in
+    let three : at + 3 ≡ suc (suc (suc at)) = omega arith in
+    rw (one, two, three)
+    (drop-cons l at 0 (omega arith)
+    ∙ ap (λ (r : List ℕ). getD l at 0 ∷ r) (drop-cons l (suc at) 0 (omega arith) ∙ ap (λ (r : List ℕ). getD l (suc at) 0 ∷ r) (drop-cons l (suc (suc at)) 0 (omega arith))))
+
+-- the state and the place after `carry_ahead`, before a byte that is still there
+pub record Moved (s₀ : Reader) (input entry answers : List ℕ) (at : ℕ) (a : Ahead) (written : ℕ) : Type 0 where
+  pub going : Going s₀ input entry answers (a .reader) (a .at) written
+  pub inside : a .at < length input
+  pub onward : at ≤ a .at
+
+pub moved : {s₀ : Reader} {input entry answers : List ℕ} {s : Reader} {at written : ℕ} → ((i : ℕ) → getD input i 0 < 256)
+    → Going s₀ input entry answers s at written → at < length input → Moved s₀ input entry answers at (aheadOf s input at) written
+moved {s₀} {input} {entry} {answers} {s} {at} {written} small g h =
+    by-test (beginsOf s)
+    (λ e. ⊎-elim
+    (λ l. rw (carries s input at e l) (record { going = three e l; inside = omega arith; onward = omega arith }))
+    (λ l. rw (too-short s input at e l) (record { going = g; inside = h; onward = le-refl at }))
+    (whole-or-not (decLt (length input) (at + 4))))
+    (λ e. rw (stays s input at e) (record { going = g; inside = h; onward = le-refl at }))
+  where
+    whole-or-not : Dec (length input < at + 4) → (at + 4 ≤ length input) ⊎ (length input < at + 4)
+    whole-or-not (yes l) = inr l
+    whole-or-not (no l) = inl (omega arith)
+
+    three : beginsOf s ≡ true → at + 4 ≤ length input
+        → Going s₀ input entry answers (threeOf s (getD input at 0) (getD input (at + 1) 0) (getD input (at + 2) 0)) (at + 3) written
+    three e l =
+        let b = begins s e in
+        let next : drop at input ≡ getD input at 0 ∷ getD input (at + 1) 0 ∷ getD input (at + 2) 0 ∷ drop (at + 3) input = three-bytes input at (omega arith) in
+        record {
+          ok = three-ranges s b (getD input at 0) (getD input (at + 1) 0) (getD input (at + 2) 0) (small at) (small (at + 1)) (small (at + 2)) (g .ok);
+          input-fits = g .input-fits;
+          entry-fits = g .entry-fits;
+          within = omega arith;
+          room = g .room;
+          long = g .long;
+          rest = g .rest;
+          same =
+              g .same
+              ∙ ap (λ (l : List ℕ). joinOf at (take written answers) (feedOf s l (length entry - written))) next
+              ∙ ap (joinOf at (take written answers)) (three-ahead s b (getD input at 0) (getD input (at + 1) 0) (getD input (at + 2) 0) (drop (at + 3) input) (length entry - written))
+              ∙ join-join at 3 (take written answers) [] (feedOf (threeOf s (getD input at 0) (getD input (at + 1) 0) (getD input (at + 2) 0)) (drop (at + 3) input) (length entry - written))
+              ∙ ap (λ (l : List ℕ). joinOf (at + 3) l (feedOf (threeOf s (getD input at 0) (getD input (at + 1) 0) (getD input (at + 2) 0)) (drop (at + 3) input) (length entry - written))) (append-nil (take written answers));
+        }

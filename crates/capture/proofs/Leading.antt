@@ -16,22 +16,22 @@ use Rattle.capture.specs.declared.Reader.{Reader}
 use Rattle.capture.specs.Sensor.{Sensor, sensorPowered}
 use Rattle.capture.specs.Reader.{noBytes, limitOf, holdOf, quietOf, headOf, turnOf, feedOf}
 use Rattle.capture.specs.Whole.{heading, among}
-use Rattle.capture.specs.Codes.{Ahead, aheadOf, numberAhead, variantAhead, countAhead, carriedOf, Free}
-use Rattle.capture.specs.Codes.Ahead.{badCount, badVariant, unfinished, complete}
+use Rattle.capture.specs.Codes.{Header, headerOf, numberHeader, variantHeader, countHeader, carriedOf, Free}
+use Rattle.capture.specs.Codes.Header.{badCount, badVariant, unfinished, complete}
 use Rattle.capture.proofs.InRange.{ranges, idle, none, below-limit}
 use Rattle.capture.proofs.Judging.{taken, refused, ended, carries}
 
 -- ---- the header
 
 -- what a call's code is, by what is ahead: one of the header's, or that of the records, k of them done and some bytes carried
-unfoldable pub Leads : ℕ → ℕ → List ℕ → ℕ → Ahead → Type 0
+unfoldable pub Leads : ℕ → ℕ → List ℕ → ℕ → Header → Type 0
 Leads code k c room badCount = code ≡ 1
 Leads code k c room badVariant = code ≡ 2
 Leads code k c room unfinished = code ≡ 0
 Leads code k c room (complete n l) = (d : Sensor) × (code ≡ feedOf (among n k d []) (c ++ l) room .code)
 
 -- so many bytes of the record count to come
-number-leads : (m h n : ℕ) (d : Sensor) (xs : List ℕ) (room : ℕ) → 2 ≤ h → h + m ≡ 6 → Leads (feedOf (heading h n d) xs room .code) 0 [] room (numberAhead m n xs)
+number-leads : (m h n : ℕ) (d : Sensor) (xs : List ℕ) (room : ℕ) → 2 ≤ h → h + m ≡ 6 → Leads (feedOf (heading h n d) xs room .code) 0 [] room (numberHeader m n xs)
 unfolding Leads
 number-leads zero h n d xs room l e = let z : h ≡ 6 = omega arith in (d, rw z)
 number-leads (suc m) h n d [] room l e = ended (heading h n d) room
@@ -42,7 +42,7 @@ number-leads (suc m) h n d (b ∷ xs) room l e =
     counts = unfold turnOf headOf in simp (lt-ltb h 6 (omega arith), ne-eqb h 0 (λ z. omega arith), ne-eqb h 1 (λ z. omega arith))
 
 -- the variant byte to come
-variant-leads : (d : Sensor) (xs : List ℕ) (room : ℕ) → Leads (feedOf (heading 1 0 d) xs room .code) 0 [] room (variantAhead xs)
+variant-leads : (d : Sensor) (xs : List ℕ) (room : ℕ) → Leads (feedOf (heading 1 0 d) xs room .code) 0 [] room (variantHeader xs)
 unfolding Leads
 variant-leads d [] room = ended (heading 1 0 d) room
 variant-leads d (v ∷ xs) room =
@@ -57,7 +57,7 @@ variant-leads d (v ∷ xs) room =
     refuses e = unfold turnOf headOf in simp e
 
 -- the device count to come
-count-leads : (d : Sensor) (xs : List ℕ) (room : ℕ) → Leads (feedOf (heading 0 0 d) xs room .code) 0 [] room (countAhead xs)
+count-leads : (d : Sensor) (xs : List ℕ) (room : ℕ) → Leads (feedOf (heading 0 0 d) xs room .code) 0 [] room (countHeader xs)
 unfolding Leads
 count-leads d [] room = ended (heading 0 0 d) room
 count-leads d (n ∷ xs) room =
@@ -126,8 +126,8 @@ module _ (s : Reader) (three : length (s .bytes) ≡ 3) (f : Free s) where
   uncounted h e one = omega (arith, rw (e, one) at (below-limit s (f .ranges)))
 
   module _ (xs : List ℕ) (room : ℕ) where
-    header-leads : s .head < 6 → Leads (feedOf s xs room .code) (s .done) (carriedOf s) room (aheadOf s xs)
-    unfolding aheadOf
+    header-leads : s .head < 6 → Leads (feedOf s xs room .code) (s .done) (carriedOf s) room (headerOf s xs)
+    unfolding headerOf
     header-leads l =
         rw (ap (λ (t : Reader). feedOf t xs room .code) (in-header l), fresh l, quiet l)
         (cond-ind To (eqb (s .head) 0)
@@ -136,11 +136,11 @@ module _ (s : Reader) (three : length (s .bytes) ≡ 3) (f : Free s) where
         (λ z. let h = eqb-true (s .head) 1 z in rw (h, uncounted 1 h refl) (variant-leads (s .device) xs room))
         (λ m. number-leads (6 - s .head) (s .head) (s .count) (s .device) xs room (omega (arith, eqb-false (s .head) 0 n, eqb-false (s .head) 1 m)) (omega arith))))
       where
-        To : Ahead → Type 0
+        To : Header → Type 0
         To = Leads (feedOf (heading (s .head) (s .count) (s .device)) xs room .code) 0 [] room
 
-    records-leads : s .head ≡ 6 → Leads (feedOf s xs room .code) (s .done) (carriedOf s) room (aheadOf s xs)
-    unfolding aheadOf Leads
+    records-leads : s .head ≡ 6 → Leads (feedOf s xs room .code) (s .done) (carriedOf s) room (headerOf s xs)
+    unfolding headerOf Leads
     records-leads h =
         rw (ap (λ (t : Reader). feedOf t xs room .code) (in-records h), h) (
           s .device,
@@ -149,5 +149,5 @@ module _ (s : Reader) (three : length (s .bytes) ≡ 3) (f : Free s) where
               (λ e. rw (all-done e)),
         )
 
-    pub leads : Leads (feedOf s xs room .code) (s .done) (carriedOf s) room (aheadOf s xs)
+    pub leads : Leads (feedOf s xs room .code) (s .done) (carriedOf s) room (headerOf s xs)
     leads = by-test (ltb (s .head) 6) (λ l. header-leads (ltb-true (s .head) 6 l)) (λ l. records-leads (at-six l))

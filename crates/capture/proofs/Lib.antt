@@ -1,6 +1,7 @@
 pub mod Sensors
 pub mod Outcomes
 pub mod InRange
+pub mod Three
 pub mod Feeds
 pub mod Run
 pub mod Sections

@@ -29,6 +29,12 @@ pub struct Turn {
     pub second: u8,
 }
 
+// The state before a byte of the input.
+pub struct Ahead {
+    pub reader: Reader,
+    pub at: usize,
+}
+
 // What a call reports.
 pub struct Fed {
     pub code: u8,
@@ -99,6 +105,9 @@ pub fn feed(reader: Reader, input: &[u8], answers: &mut [u8]) -> Fed
     let mut at = 0;
     let mut written = 0;
     while at < input.len() {
+        let ahead = taking::carry_ahead(s, input, at);
+        s = ahead.reader;
+        at = ahead.at;
         let t = taking::take_byte(s, input[at]);
         let next = t.reader;
         if next.held != 0 {

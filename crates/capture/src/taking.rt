@@ -3,7 +3,8 @@ ghost use mathlib.Core.Path.{_≡_};
 ghost use mathlib.Core.Bool.{true};
 ghost use Prim.Native.Nat.{_<_};
 ghost use lib.ListN.{set};
-ghost use Rattle.capture.specs.Reader.{holdOf, quietOf, headOf, carryOf, recordOf, turnOf, rangesOf};
+ghost use Rattle.capture.specs.Reader.{holdOf, quietOf, headOf, carryOf, beginsOf, threeOf, aheadOf, recordOf, turnOf, rangesOf};
+use super::Ahead;
 use super::Reader;
 use super::Turn;
 use record::Record;
@@ -88,6 +89,45 @@ fn carry(s: Reader, b: u8) -> Reader
     next.bytes = bytes;
     next.carried = s.carried + 1;
     next
+}
+
+// A record begins here: the header is complete, a record is counted, and none of its bytes is carried.
+fn begins(s: Reader) -> bool
+    ensures { λ r. ⌜ r ≡ beginsOf s ⌝ }
+{
+    (s.held == 0) & ((s.head == 6) & ((s.carried == 0) & (s.done < s.count)))
+}
+
+fn carry_three(s: Reader, a: u8, b: u8, c: u8) -> Reader
+    ensures { λ r. ⌜ r ≡ threeOf s a b c ⌝ }
+{
+    let mut q = s.bytes;
+    q[0] = a;
+    q[1] = b;
+    q[2] = c;
+    let mut next = s;
+    next.bytes = q;
+    next.carried = 3;
+    next
+}
+
+// Three bytes at once where a whole record stands in the input, so that the next byte is its fourth.
+pub(crate) fn carry_ahead(s: Reader, input: &[u8], at: usize) -> Ahead
+    ensures { λ r. ⌜ r ≡ aheadOf s (now (input .entry)) at ⌝ }
+{
+    if !begins(s) {
+        return Ahead { reader: s, at };
+    }
+    if input.len() < 4 {
+        return Ahead { reader: s, at };
+    }
+    if input.len() - 4 < at {
+        return Ahead { reader: s, at };
+    }
+    Ahead {
+        reader: carry_three(s, input[at], input[at + 1], input[at + 2]),
+        at: at + 3,
+    }
 }
 
 // A record's fourth byte: the record is judged, and stepped if it is an event.

@@ -2,11 +2,12 @@
 use mathlib.Core.Path.{sym}
 use borrow.Author.Tests.{not-true, not-false}
 use Prim.Native.Nat.{_-_}
+use native.Mathlib.Omega.{arith}
 use mathlib.Core.Logic.{⊎-elim}
 use mathlib.Core.Path.{sym, _∙_}
 use lib.ListN.{length}
 use Rattle.capture.proofs.InRange.{turn-ranges}
-use Rattle.capture.proofs.Feeds.{Going, start, finished, refused, full, silent, paired, stored, called, outside}
+use Rattle.capture.proofs.Feeds.{Going, Moved, start, moved, finished, refused, full, silent, paired, stored, called, outside}
 use borrow.Author.Needs.{needs}
 use Rattle.capture.proofs.feed.Statement.{statement}
 use Rattle.capture.proofs.feed.Tie as tie
@@ -16,6 +17,11 @@ Inv-loop input answers₀ s₀ at₀ written₀ answers s at written = Going s�
 
 abbrev μ-loop : tie.MeasureT-loop
 μ-loop input answers₀ s₀ at₀ written₀ answers s at written = length input - at
+
+-- after `carry_ahead`: the invariant holds of its state, before a byte that is there
+here : (c : tie.After-carry-ahead Inv-loop μ-loop) → Moved (c .before .before .before .before .before .before .before .args .reader) (c .before .before .before .before .before .before .before .args .input .now) (c .before .before .before .before .before .before .before .args .answers .now) (c .before .before .loop .answers) (c .before .before .loop .at) (c .carry-ahead .result) (c .before .before .loop .written)
+here c =
+    rw (← (c .carry-ahead .ensures)) at (moved (λ i. c .before .before .before .before .before .before .shared-slice-known .given i .fits) (c .before .before .loop .inv) (c .before .loop-test .taken))
 
 in-range-requires : tie.Need-in-range-requires Inv-loop μ-loop
 in-range-requires c κs = search needs
@@ -32,13 +38,16 @@ returns c =
 loop-holds : tie.Need-loop-holds Inv-loop μ-loop
 loop-holds c =
     let a = c .before .before .before .before .args in
-    start (a .reader) (a .input .now) (a .answers .now) (sym (c .before .in-range .ensures) ∙ not-false (c .before .in-range .result) (c .if1 .left))
+    start (a .reader) (a .input .now) (a .answers .now) (omega arith) (omega arith) (sym (c .before .in-range .ensures) ∙ not-false (c .before .in-range .result) (c .if1 .left))
+
+carry-ahead-requires : tie.Need-carry-ahead-requires Inv-loop μ-loop
+carry-ahead-requires c κs = search needs
 
 shared-slice-read-take-byte : tie.Need-shared-slice-read-take-byte Inv-loop μ-loop
-shared-slice-read-take-byte c = search needs
+shared-slice-read-take-byte c = here (c .before .before) .inside
 
 take-byte-requires : tie.Need-take-byte-requires Inv-loop μ-loop
-take-byte-requires c κs = search needs
+take-byte-requires c κs = here (c .before .before) .going .ok
 
 report-requires-2 : tie.Need-report-requires-2 Inv-loop μ-loop
 report-requires-2 c κs = search needs
@@ -48,10 +57,10 @@ same-length c = search needs
 
 returns-2 : tie.Need-returns-2 Inv-loop μ-loop
 returns-2 c =
-    let a = c .before .before .before .before .before .before .before .before .before .before .before .before .args in
+    let a = c .before .before .before .before .before .before .before .before .before .before .before .before .before .before .args in
     rw (c .report2 .ensures)
-    (called (a .reader) (a .input .now) (a .answers .now) (sym (c .before .before .before .before .before .before .before .before .before .in-range .ensures) ∙ not-false (c .before .before .before .before .before .before .before .before .before .in-range .result) (c .before .before .before .before .before .before .before .before .if1 .left))
-    (refused (c .before .before .before .before .before .before .before .loop .inv) (c .before .before .before .before .before .before .loop-test .taken) (c .before .before .before .before .take-byte .ensures) (c .before .if2 .taken)))
+    (called (a .reader) (a .input .now) (a .answers .now) (sym (c .before .before .before .before .before .before .before .before .before .before .before .in-range .ensures) ∙ not-false (c .before .before .before .before .before .before .before .before .before .before .before .in-range .result) (c .before .before .before .before .before .before .before .before .before .before .if1 .left))
+    (refused (here (c .before .before .before .before .before .before .before) .going) (here (c .before .before .before .before .before .before .before) .inside) (c .before .before .before .before .take-byte .ensures) (c .before .if2 .taken)))
 
 sub-if4 : tie.Need-sub-if4 Inv-loop μ-loop
 sub-if4 c = search needs
@@ -64,10 +73,10 @@ same-length-2 c = search needs
 
 returns-3 : tie.Need-returns-3 Inv-loop μ-loop
 returns-3 c =
-    let a = c .before .before .before .before .before .before .before .before .before .before .before .before .before .before .args in
+    let a = c .before .before .before .before .before .before .before .before .before .before .before .before .before .before .before .before .args in
     rw (c .report3 .ensures)
-    (called (a .reader) (a .input .now) (a .answers .now) (sym (c .before .before .before .before .before .before .before .before .before .before .before .in-range .ensures) ∙ not-false (c .before .before .before .before .before .before .before .before .before .before .before .in-range .result) (c .before .before .before .before .before .before .before .before .before .before .if1 .left))
-    (full (c .before .before .before .before .before .before .before .before .before .loop .inv) (c .before .before .before .before .before .before .before .before .loop-test .taken) (c .before .before .before .before .before .before .take-byte .ensures) (c .before .before .before .if2 .left) (c .before .before .if3 .taken) (c .before .if4 .taken)))
+    (called (a .reader) (a .input .now) (a .answers .now) (sym (c .before .before .before .before .before .before .before .before .before .before .before .before .before .in-range .ensures) ∙ not-false (c .before .before .before .before .before .before .before .before .before .before .before .before .before .in-range .result) (c .before .before .before .before .before .before .before .before .before .before .before .before .if1 .left))
+    (full (here (c .before .before .before .before .before .before .before .before .before) .going) (here (c .before .before .before .before .before .before .before .before .before) .inside) (c .before .before .before .before .before .before .take-byte .ensures) (c .before .before .before .if2 .left) (c .before .before .if3 .taken) (c .before .if4 .taken)))
 
 sub-put-pair : tie.Need-sub-put-pair Inv-loop μ-loop
 sub-put-pair c = search needs
@@ -82,23 +91,25 @@ put-pair-requires : tie.Need-put-pair-requires Inv-loop μ-loop
 put-pair-requires c κs = search needs
 
 add-written : tie.Need-add-written Inv-loop μ-loop
-add-written c = search needs
+add-written c =
+    let g = c .before .before .before .before .before .before .before .before .before .before .before .before .before .before .loop .inv in
+    omega (arith, c .before .before .before .before .if4 .left, g .long, g .room, g .entry-fits)
 
 add-at : tie.Need-add-at Inv-loop μ-loop
-add-at c = search needs
+add-at c = omega (arith, here (c .before .before .before .before .before .before .before) .inside, c .before .before .before .before .before .before .before .before .before .loop .inv .input-fits)
 
 loop-less : tie.Need-loop-less Inv-loop μ-loop
-loop-less c = search needs
+loop-less c = omega (arith, here (c .before .before .before .before .before .before .before) .inside, here (c .before .before .before .before .before .before .before) .onward)
 
 loop-again : tie.Need-loop-again Inv-loop μ-loop
 loop-again c =
-    let l = c .before .before .before .before .before .before .before .loop in
-    let g = l .inv in
-    let h = c .before .before .before .before .before .before .loop-test .taken in
+    let m = here (c .before .before .before .before .before .before .before) in
+    let a = c .before .before .before .before .before .before .before .carry-ahead .result in
+    let g = m .going in
     let e = c .before .before .before .before .take-byte .ensures in
-    let k = rw (← e) at (turn-ranges (l .s) _ (c .before .before .before .before .before .shared-slice-known2 .given (l .at) .fits) (g .ok)) in
-    ⊎-elim (λ w. rw (w .7) (paired g h e k (c .before .if2 .left) (w .0 .taken) (w .1 .left) (w .6 ∙ stored (l .answers) (w .3 .last .0) _ _ _ (w .3 .ensures))))
-    (λ w. rw (w .1, w .2) (silent g h e k (c .before .if2 .left) (w .0 .left))) (c .if3 .came)
+    let k = rw (← e) at (turn-ranges (a .reader) _ (c .before .before .before .before .before .shared-slice-known2 .given (a .at) .fits) (g .ok)) in
+    ⊎-elim (λ w. rw (w .7) (paired g (m .inside) e k (c .before .if2 .left) (w .0 .taken) (w .1 .left) (w .6 ∙ stored (c .before .before .before .before .before .before .before .before .before .loop .answers) (w .3 .last .0) _ _ _ (w .3 .ensures))))
+    (λ w. rw (w .1, w .2) (silent g (m .inside) e k (c .before .if2 .left) (w .0 .left))) (c .if3 .came)
 
 report-requires-4 : tie.Need-report-requires-4 Inv-loop μ-loop
 report-requires-4 c κs = search needs
@@ -123,6 +134,7 @@ feed-spec =
     report-requires
     returns
     loop-holds
+    carry-ahead-requires
     shared-slice-read-take-byte
     take-byte-requires
     report-requires-2
