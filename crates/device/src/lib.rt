@@ -11,11 +11,11 @@ pub mod ranges;
 // The fourteen settings stand in rising order of their write addresses.
 #[repr(C)]
 pub struct Device {
+    pub sensed: Sensed,
     pub variant: u8,
     pub pointer: u8,
     pub pending: bool,
     pub status: u8,
-    pub sensed: Sensed,
     pub settings: [u8; 14],
 }
 
