@@ -1,0 +1,92 @@
+// The bench's calls on one device where it stands, for C.
+ghost use mathlib.Core.Path.{_≡_};
+ghost use Rattle.bench_step.specs.BenchStep.{refusalOf, stepBytesOf, powerOnOf};
+use conversion::Sensed;
+use device::Device;
+use record::Record;
+
+// A step's code and its two answer bytes.
+#[repr(C)]
+pub struct Answer {
+    pub code: u8,
+    pub first: u8,
+    pub second: u8,
+}
+
+// The device after a step, and the step's answer.
+pub struct Taken {
+    pub device: Device,
+    pub answer: Answer,
+}
+
+fn refusal(d: Device, code: u8) -> Taken
+    ensures { λ r. ⌜ r ≡ refusalOf d code ⌝ }
+{
+    Taken {
+        device: d,
+        answer: Answer {
+            code,
+            first: 0,
+            second: 0,
+        },
+    }
+}
+
+// One event, given as its record's four bytes, by value: 8, then 3, then 4, else 0.
+pub fn step_bytes(d: Device, kind: u8, a: u8, b: u8, c: u8) -> Taken
+    ensures { λ r. ⌜ r ≡ stepBytesOf d kind a b c ⌝ }
+{
+    if !(device::ranges::variant(d.variant) & device::ranges::ranged(d)) {
+        return refusal(d, 8);
+    }
+    let r = record::decode(kind, a, b, c);
+    let Record::Valid(e) = r else {
+        return refusal(d, record::code(r));
+    };
+    let o = device::effect(d, e);
+    let device = o.device;
+    Taken {
+        device,
+        answer: Answer {
+            code: 0,
+            first: device::answer(o),
+            second: o.byte,
+        },
+    }
+}
+
+// The same on the device where it stands.
+#[no_mangle]
+pub extern "C" fn lm89_step(d: &mut Device, kind: u8, a: u8, b: u8, c: u8) -> Answer
+    ensures { λ r. ⌜ (now (d .exit) ≡ stepBytesOf (now (d .entry)) kind a b c .device) × (r ≡ stepBytesOf (now (d .entry)) kind a b c .answer) ⌝ }
+{
+    let r = step_bytes(*d, kind, a, b, c);
+    *d = r.device;
+    r.answer
+}
+
+// A device as after power-on, all zeros where the variant is none of 1 to 3.
+#[no_mangle]
+pub extern "C" fn lm89_power_on(variant: u8) -> Device
+    ensures { λ r. ⌜ r ≡ powerOnOf variant ⌝ }
+{
+    if device::ranges::variant(variant) {
+        return device::bus::powered(variant);
+    }
+    let sensed = Sensed {
+        local: 0,
+        remote: 0,
+        live: 0,
+        faults: 0,
+        llatch: false,
+        rlatch: false,
+    };
+    Device {
+        sensed,
+        variant: 0,
+        pointer: 0,
+        pending: false,
+        status: 0,
+        settings: [0; 14],
+    }
+}
