@@ -1,0 +1,109 @@
+-- Assumes nothing.
+use borrow.Author.Needs.{needs}
+use Rattle.lines.proofs.Layers.{at-most-ten, no-word, no-number, no-tail, all-three}
+use Rattle.lines.proofs.put.Statement.{statement}
+use Rattle.lines.proofs.put.Tie as tie
+
+ten-requires : tie.Need-ten-requires
+ten-requires c κs = search needs
+
+zeros-requires : tie.Need-zeros-requires
+zeros-requires c κs = search needs
+
+returns : tie.Need-returns
+returns c = no-word (c .before .before .before .before .before .before .args .word .now) (c .before .before .before .before .before .before .args .tail .now) (c .before .before .before .before .before .before .args .room .now) (c .before .before .before .before .before .before .args .n) (c .before .zeros .ensures) (c .if1 .taken)
+
+sub-if2 : tie.Need-sub-if2
+sub-if2 c = at-most-ten (c .before .before .before .before .before .before .args .n) (c .before .zeros .ensures)
+
+returns-2 : tie.Need-returns-2
+returns-2 c = no-number (c .before .before .before .before .before .before .before .args .word .now) (c .before .before .before .before .before .before .before .args .tail .now) (c .before .before .before .before .before .before .before .args .room .now) (c .before .before .before .before .before .before .before .args .n) (c .before .before .zeros .ensures) (c .if2 .taken)
+
+sub-b : tie.Need-sub-b
+sub-b c = at-most-ten (c .before .before .before .before .before .before .before .args .n) (c .before .before .zeros .ensures)
+
+add-b : tie.Need-add-b
+add-b c = search needs
+
+sub-if3 : tie.Need-sub-if3
+sub-if3 c = search needs
+
+returns-3 : tie.Need-returns-3
+returns-3 c = no-tail (c .before .before .before .before .before .before .before .before .args .word .now) (c .before .before .before .before .before .before .before .before .args .tail .now) (c .before .before .before .before .before .before .before .before .args .room .now) (c .before .before .before .before .before .before .before .before .args .n) (c .before .before .before .zeros .ensures) (c .if3 .taken)
+
+copy-requires : tie.Need-copy-requires
+copy-requires c κs = search needs
+
+sub-copy : tie.Need-sub-copy
+sub-copy c = at-most-ten (c .before .before .before .before .before .before .before .before .before .before .before .before .args .n) (c .before .before .before .before .before .before .before .zeros .ensures)
+
+part-copy-start : tie.Need-part-copy-start
+part-copy-start c = at-most-ten (c .before .before .before .before .before .before .before .before .before .before .before .before .before .args .n) (c .before .before .before .before .before .before .before .before .zeros .ensures)
+
+part-copy-end : tie.Need-part-copy-end
+part-copy-end c = search needs
+
+sub-copy-2 : tie.Need-sub-copy-2
+sub-copy-2 c = search needs
+
+part-copy-start-2 : tie.Need-part-copy-start-2
+part-copy-start-2 c = search needs
+
+part-copy-end-2 : tie.Need-part-copy-end-2
+part-copy-end-2 c = search needs
+
+copy-requires-2 : tie.Need-copy-requires-2
+copy-requires-2 c κs = search needs
+
+sub-copy-3 : tie.Need-sub-copy-3
+sub-copy-3 c = search needs
+
+part-copy-start-3 : tie.Need-part-copy-start-3
+part-copy-start-3 c = search needs
+
+part-copy-end-3 : tie.Need-part-copy-end-3
+part-copy-end-3 c = search needs
+
+copy-requires-3 : tie.Need-copy-requires-3
+copy-requires-3 c κs = search needs
+
+add-result : tie.Need-add-result
+add-result c = search needs
+
+same-length : tie.Need-same-length
+same-length c = search needs
+
+returns-4 : tie.Need-returns-4
+returns-4 c =
+    all-three (c .before .before .before .before .before .before .before .before .before .before .before .before .before .before .before .before .before .before .before .before .before .before .args .word .now) (c .before .before .before .before .before .before .before .before .before .before .before .before .before .before .before .before .before .before .before .before .before .before .args .tail .now) (c .before .before .before .before .before .before .before .before .before .before .before .before .before .before .before .before .before .before .before .before .before .before .args .room .now) (c .before .before .before .before .before .before .before .before .before .before .before .before .before .before .before .before .before .before .before .before .before .before .args .n)
+    (c .before .before .before .before .before .before .before .before .before .before .before .before .before .before .before .before .before .zeros .ensures) (c .before .before .before .before .before .before .before .before .before .before .before .before .before .before .before .before .before .before .ten .ensures) (c .before .before .before .before .before .before .before .before .before .before .before .before .before .before .before .before .if1 .left) (c .before .before .before .before .before .before .before .before .before .before .before .before .before .before .before .if2 .left) (c .before .before .before .before .before .before .before .before .before .before .before .before .before .before .if3 .left)
+    (c .before .before .before .before .before .before .before .before .before .before .before .before .copy .ensures .1) (c .before .before .before .before .before .before .copy2 .ensures .1) (c .before .before .copy3 .ensures .1)
+
+pub put-spec : {M : Type 1} → statement M
+put-spec =
+    tie.close
+    (tie.spec
+    ten-requires
+    zeros-requires
+    returns
+    sub-if2
+    returns-2
+    sub-b
+    add-b
+    sub-if3
+    returns-3
+    copy-requires
+    sub-copy
+    part-copy-start
+    part-copy-end
+    sub-copy-2
+    part-copy-start-2
+    part-copy-end-2
+    copy-requires-2
+    sub-copy-3
+    part-copy-start-3
+    part-copy-end-3
+    copy-requires-3
+    add-result
+    same-length
+    returns-4)

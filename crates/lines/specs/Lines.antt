@@ -1,0 +1,87 @@
+-- Listing in full: a record's line, the end line, and the listing of a capture, as bytes.
+-- Assumes nothing.
+use Prim.Native.Nat.{ℕ, _+_, _/_, _%_}
+use mathlib.Core.Path.{_≡_}
+use mathlib.Core.Bool.{cond}
+use mathlib.Core.List.{List, [], _∷_, _++_}
+use lib.Dec.{ltb, leb}
+use lib.ListN.{length, drop}
+use Rattle.capture.specs.Whole.{wholeOf}
+
+-- ---- numbers
+
+-- a decimal digit, the last of a number: 0 is 48
+unfoldable pub digitOf : ℕ → ℕ
+digitOf n = n % 10 + 48
+
+-- an upper-case hex digit, the last of a number: 0 is 48, A is 65
+unfoldable pub hexOf : ℕ → ℕ
+hexOf n = cond (ltb (n % 16) 10) (n % 16 + 48) (n % 16 + 55)
+
+-- ten digits of a number below 2 ^ 32
+abbrev pub tenDigits : ℕ → List ℕ
+tenDigits n =
+    digitOf (n / 1000000000) ∷ digitOf (n / 100000000) ∷ digitOf (n / 10000000) ∷ digitOf (n / 1000000) ∷ digitOf (n / 100000)
+    ∷ digitOf (n / 10000) ∷ digitOf (n / 1000) ∷ digitOf (n / 100) ∷ digitOf (n / 10) ∷ digitOf n ∷ []
+
+-- how many of them are leading zeros; the last digit always stands
+unfoldable pub zerosOf : ℕ → ℕ
+zerosOf n =
+    cond (ltb n 10) 9
+    (cond (ltb n 100) 8
+    (cond (ltb n 1000) 7
+    (cond (ltb n 10000) 6
+    (cond (ltb n 100000) 5
+    (cond (ltb n 1000000) 4
+    (cond (ltb n 10000000) 3
+    (cond (ltb n 100000000) 2
+    (cond (ltb n 1000000000) 1
+    0))))))))
+
+-- a number with no leading zeros
+abbrev pub decimalOf : ℕ → List ℕ
+decimalOf n = drop (zerosOf n) (tenDigits n)
+
+-- ---- lines: 32 is a blank, 10 a line feed
+
+-- behind the number: the two answer bytes
+abbrev pub pairOf : ℕ → ℕ → List ℕ
+pairOf first second = 32 ∷ hexOf (first / 16) ∷ hexOf first ∷ 32 ∷ hexOf (second / 16) ∷ hexOf second ∷ 10 ∷ []
+
+abbrev pub lineOf : ℕ → ℕ → ℕ → List ℕ
+lineOf n first second = decimalOf n ++ pairOf first second
+
+-- the last line: `end`, records done, finishing code
+abbrev pub endWord : List ℕ
+endWord = 101 ∷ 110 ∷ 100 ∷ 32 ∷ []
+
+abbrev pub tailOf : ℕ → List ℕ
+tailOf code = 32 ∷ digitOf code ∷ 10 ∷ []
+
+abbrev pub endLineOf : ℕ → ℕ → List ℕ
+endLineOf done code = endWord ++ (decimalOf done ++ tailOf code)
+
+-- ---- the listing
+
+-- a line for each pair of answers, numbered from n
+abbrev pub linesOf : ℕ → List ℕ → List ℕ
+linesOf n [] = []
+linesOf n (a ∷ []) = []
+linesOf n (a ∷ b ∷ answers) = lineOf n a b ++ linesOf (n + 1) answers
+
+-- of answers, records done and finishing code
+abbrev pub listingOf : List ℕ → ℕ → ℕ → List ℕ
+listingOf answers done finishing = linesOf 1 answers ++ endLineOf done finishing
+
+-- of a capture
+abbrev pub captureListingOf : List ℕ → List ℕ
+captureListingOf capture = listingOf (wholeOf capture .answers) (wholeOf capture .reader .done) (wholeOf capture .finishing)
+
+-- ---- what a writer of a line promises: the line if there is room for it, else nothing; how many bytes; the rest of the buffer as it was
+
+abbrev pub fittingOf : List ℕ → ℕ → List ℕ
+fittingOf line room = cond (leb (length line) room) line []
+
+pub record Lined (line : List ℕ) (count : ℕ) (entry exit : List ℕ) : Type 0 where
+  pub told : count ≡ length (fittingOf line (length entry))
+  pub buffer : exit ≡ fittingOf line (length entry) ++ drop (length (fittingOf line (length entry))) entry

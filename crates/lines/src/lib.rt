@@ -1,0 +1,111 @@
+// The listing's lines, as bytes in a lent buffer.
+ghost use mathlib.Core.Path.{_≡_};
+ghost use mathlib.Core.List.{_++_};
+ghost use Rattle.lines.specs.Lines.{zerosOf, digitOf, hexOf, tenDigits, decimalOf, lineOf, endLineOf, Lined};
+
+// How many of ten digits are leading zeros.
+fn zeros(n: u32) -> usize
+    ensures { λ r. ⌜ r ≡ zerosOf n ⌝ }
+{
+    if n < 10 {
+        9
+    } else if n < 100 {
+        8
+    } else if n < 1000 {
+        7
+    } else if n < 10000 {
+        6
+    } else if n < 100000 {
+        5
+    } else if n < 1000000 {
+        4
+    } else if n < 10000000 {
+        3
+    } else if n < 100000000 {
+        2
+    } else if n < 1000000000 {
+        1
+    } else {
+        0
+    }
+}
+
+fn digit(n: u32) -> u8
+    ensures { λ r. ⌜ r ≡ digitOf n ⌝ }
+{
+    (n % 10 + 48) as u8
+}
+
+fn hex(n: u8) -> u8
+    ensures { λ r. ⌜ r ≡ hexOf n ⌝ }
+{
+    let k = n % 16;
+    if k < 10 { k + 48 } else { k + 55 }
+}
+
+fn ten(n: u32) -> [u8; 10]
+    ensures { λ r. ⌜ r ≡ tenDigits n ⌝ }
+{
+    [
+        digit(n / 1000000000),
+        digit(n / 100000000),
+        digit(n / 10000000),
+        digit(n / 1000000),
+        digit(n / 100000),
+        digit(n / 10000),
+        digit(n / 1000),
+        digit(n / 100),
+        digit(n / 10),
+        digit(n),
+    ]
+}
+
+// A word, a number and a tail to the front of the room, if they fit; how many bytes.
+fn put(word: &[u8], n: u32, tail: &[u8], room: &mut [u8]) -> usize
+    ensures { λ r. ⌜ Lined (now (word .entry) ++ (decimalOf n ++ now (tail .entry))) r (now (room .entry)) (now (room .exit)) ⌝ }
+{
+    let digits = ten(n);
+    let skip = zeros(n);
+    let size = room.len();
+    let a = word.len();
+    if size < a {
+        return 0;
+    }
+    if size - a < 10 - skip {
+        return 0;
+    }
+    let b = a + (10 - skip);
+    if size - b < tail.len() {
+        return 0;
+    }
+    bytes::copy(word, room);
+    bytes::copy(&digits[skip..], &mut room[a..]);
+    bytes::copy(tail, &mut room[b..]);
+    b + tail.len()
+}
+
+// A record's line: its number and its two answer bytes; 0 where there is no room for it.
+pub fn record_line(n: u32, first: u8, second: u8, room: &mut [u8]) -> usize
+    ensures { λ r. ⌜ Lined (lineOf n first second) r (now (room .entry)) (now (room .exit)) ⌝ }
+{
+    let word = [0; 0];
+    let tail = [
+        b' ',
+        hex(first / 16),
+        hex(first),
+        b' ',
+        hex(second / 16),
+        hex(second),
+        b'\n',
+    ];
+    put(&word, n, &tail, room)
+}
+
+// The end line: records done and finishing code; 0 where there is no room for it.
+pub fn end_line(done: u32, code: u8, room: &mut [u8]) -> usize
+    ensures { λ r. ⌜ Lined (endLineOf done code) r (now (room .entry)) (now (room .exit)) ⌝ }
+{
+    let word = [b'e', b'n', b'd', b' '];
+    let tail = [b' ', digit(code as u32), b'\n'];
+    put(&word, done, &tail, room)
+}
