@@ -6,11 +6,11 @@ use mathlib.Core.Bool.{Bool, cond}
 use mathlib.Core.List.{List, [], _++_, append-nil, append-assoc}
 use native.Mathlib.Omega.{arith}
 use native.Mathlib.Nat.{le-refl}
-use lib.Dec.{ltb}
+use lib.Dec.{ltb, leb}
 use lib.ListN.{length, take, drop, length-append, length-drop, drop-of-length-le}
 use lib.Seq.{take-all, take-at, drop-at, drop-drop}
 use borrow.Rule.Slice.PartMut.{putMid}
-use borrow.Author.Tests.{le-leb, lt-leb}
+use borrow.Author.Tests.{le-leb, lt-leb, leb-true}
 use Rattle.laws.proofs.Choices.{cond-ind}
 use Rattle.lines.specs.Lines.{zerosOf, tenDigits, decimalOf, fittingOf, Lined}
 
@@ -124,3 +124,20 @@ module _ (word tail entry : List ℕ) (n : ℕ) {z : ℕ} (zeros : z ≡ zerosOf
 -- two results that meet the promise are equal, and so are their buffers
 pub one-line : {line entry exit exit′ : List ℕ} {m n : ℕ} → Lined line m entry exit → Lined line n entry exit′ → (m ≡ n) × (exit ≡ exit′)
 one-line p q = (p .told ∙ sym (q .told), p .buffer ∙ sym (q .buffer))
+
+-- no more is counted than the room holds, and the room stays as long as it was
+pub within : {line entry exit : List ℕ} {count : ℕ} → Lined line count entry exit → count ≤ length entry
+within {line} {entry} p =
+    rw (p .told) (cond-ind (λ (l : List ℕ). length l ≤ length entry) (leb (length line) (length entry)) (λ h. leb-true (length line) (length entry) h) (λ _. omega arith))
+
+pub same-room : {line entry exit : List ℕ} {count : ℕ} → Lined line count entry exit → length exit ≡ length entry
+same-room {line} {entry} {exit} p =
+    let f : List ℕ = fittingOf line (length entry) in
+    let a : length exit ≡ length f + length (drop (length f) entry) = ap length (p .buffer) ∙ length-append f (drop (length f) entry) in
+    let b : length (drop (length f) entry) ≡ length entry - length f = length-drop (length f) entry in
+    let w = within p in
+    let t = p .told in
+    omega arith
+
+pub inside : {line entry exit : List ℕ} {count : ℕ} → Lined line count entry exit → count ≤ length exit
+inside p = rw (same-room p) (within p)

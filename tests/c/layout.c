@@ -1,0 +1,304 @@
+/* The structs of lm89.h against the library: where each field stands, and which fields each event moves. */
+#include <string.h>
+
+#include "check.h"
+#include "lm89.h"
+
+_Static_assert(sizeof(lm89_sensed) == 8, "size of lm89_sensed");
+_Static_assert(offsetof(lm89_sensed, local) == 0, "local");
+_Static_assert(offsetof(lm89_sensed, remote) == 2, "remote");
+_Static_assert(offsetof(lm89_sensed, live) == 4, "live");
+_Static_assert(offsetof(lm89_sensed, faults) == 5, "faults");
+_Static_assert(offsetof(lm89_sensed, llatch) == 6, "llatch");
+_Static_assert(offsetof(lm89_sensed, rlatch) == 7, "rlatch");
+_Static_assert(sizeof(lm89_device) == 26, "size of lm89_device");
+_Static_assert(offsetof(lm89_device, sensed) == 0, "sensed");
+_Static_assert(offsetof(lm89_device, variant) == 8, "variant");
+_Static_assert(offsetof(lm89_device, pointer) == 9, "pointer");
+_Static_assert(offsetof(lm89_device, pending) == 10, "pending");
+_Static_assert(offsetof(lm89_device, status) == 11, "status");
+_Static_assert(offsetof(lm89_device, settings) == 12, "settings");
+_Static_assert(sizeof(lm89_answer) == 3, "size of lm89_answer");
+_Static_assert(offsetof(lm89_answer, code) == 0, "code");
+_Static_assert(offsetof(lm89_answer, first) == 1, "first");
+_Static_assert(offsetof(lm89_answer, second) == 2, "second");
+
+#define SETTINGS 14
+#define HERE LM89_ADDRESS_LM89C
+
+static const uint8_t written_at[SETTINGS] = {
+    0x09, 0x0A, 0x0B, 0x0C, 0x0D, 0x0E, 0x11, 0x12, 0x13, 0x14, 0x19, 0x20, 0x21, 0xBF,
+};
+
+static const uint8_t kept[SETTINGS] = {
+    0xD5, 0xFF, 0xFF, 0xFF, 0xFF, 0xFF, 0xFF, 0xE0, 0xE0, 0xE0, 0xFF, 0xFF, 0x1F, 0x07,
+};
+
+static const uint8_t known[] = {
+    0x00, 0x01, 0x02, 0x03, 0x04, 0x05, 0x06, 0x07, 0x08, 0x09, 0x0A, 0x0B, 0x0C, 0x0D, 0x0E, 0x0F,
+    0x10, 0x11, 0x12, 0x13, 0x14, 0x19, 0x20, 0x21, 0xBF, 0xFE, 0xFF,
+};
+
+/* Every byte of the two devices but the one of padding behind the local reading. */
+static bool same(const lm89_device *x, const lm89_device *y)
+{
+    size_t behind = offsetof(lm89_device, sensed) + offsetof(lm89_sensed, remote);
+    return x->sensed.local == y->sensed.local
+        && memcmp((const char *)x + behind, (const char *)y + behind, sizeof *x - behind) == 0;
+}
+
+static lm89_device zeros(void)
+{
+    lm89_device device;
+    memset(&device, 0, sizeof device);
+    return device;
+}
+
+static lm89_device fresh(void)
+{
+    return lm89_power_on(LM89_VARIANT_LM89C);
+}
+
+/* The step on a device between two fences, which it must leave alone. */
+static lm89_answer fenced_step(lm89_device *device, uint8_t kind, uint8_t a, uint8_t b, uint8_t c)
+{
+    struct {
+        uint8_t before[16];
+        lm89_device device;
+        uint8_t after[16];
+    } field;
+    uint8_t fence[16];
+    memset(fence, 0xA7, sizeof fence);
+    memcpy(field.before, fence, sizeof fence);
+    memcpy(field.after, fence, sizeof fence);
+    field.device = *device;
+    lm89_answer answer = lm89_step(&field.device, kind, a, b, c);
+    CHECK(memcmp(field.before, fence, sizeof fence) == 0);
+    CHECK(memcmp(field.after, fence, sizeof fence) == 0);
+    *device = field.device;
+    return answer;
+}
+
+static bool is(lm89_answer answer, uint8_t code, uint8_t first, uint8_t second)
+{
+    return answer.code == code && answer.first == first && answer.second == second;
+}
+
+static bool refused(const lm89_device *device, uint8_t code, uint8_t kind, uint8_t a, uint8_t b, uint8_t c)
+{
+    lm89_device stepped = *device;
+    return is(fenced_step(&stepped, kind, a, b, c), code, 0, 0) && same(&stepped, device);
+}
+
+static void test_power_on(void)
+{
+    static const uint8_t settings[SETTINGS] = {0, 8, 70, 0, 70, 0, 0, 0, 0, 0, 110, 85, 10, 0};
+    for (unsigned variant = 0; variant < 256; variant++) {
+        lm89_device expected = zeros();
+        if (1 <= variant && variant <= 3) {
+            expected.variant = (uint8_t)variant;
+            memcpy(expected.settings, settings, sizeof settings);
+        }
+        if (variant == LM89_VARIANT_LM89_1D) {
+            expected.settings[11] = 105;
+        }
+        lm89_device device = lm89_power_on((uint8_t)variant);
+        CHECK(same(&device, &expected));
+    }
+}
+
+static void test_pointer(void)
+{
+    for (unsigned reg = 0; reg < 256; reg++) {
+        lm89_device device = fresh();
+        lm89_device expected = device;
+        bool found = memchr(known, (int)reg, sizeof known) != NULL;
+        if (found) {
+            expected.pointer = (uint8_t)reg;
+        }
+        lm89_answer answer = fenced_step(&device, LM89_KIND_SEND, HERE, (uint8_t)reg, 0);
+        CHECK(is(answer, LM89_CODE_DONE, found ? LM89_ANSWER_ACKNOWLEDGED : 0, 0));
+        CHECK(same(&device, &expected));
+    }
+}
+
+static void test_writes(void)
+{
+    for (unsigned i = 0; i < SETTINGS; i++) {
+        for (unsigned value = 0; value < 256; value++) {
+            lm89_device device = fresh();
+            lm89_device expected = device;
+            expected.pointer = written_at[i];
+            expected.settings[i] = (uint8_t)(value & kept[i]);
+            lm89_answer answer = fenced_step(&device, LM89_KIND_WRITE, HERE, written_at[i], (uint8_t)value);
+            CHECK(is(answer, LM89_CODE_DONE, LM89_ANSWER_ACKNOWLEDGED, 0));
+            CHECK(same(&device, &expected));
+        }
+    }
+}
+
+/* A conversion taken on a fresh device, whose limits are 0 and 70, with T_CRIT 85 local and 110 remote. */
+static void converts(uint8_t kind, uint8_t local, uint8_t high, uint8_t low, lm89_sensed sensed, uint8_t first)
+{
+    lm89_device device = fresh();
+    lm89_device expected = device;
+    expected.sensed = sensed;
+    expected.status = sensed.live;
+    CHECK(is(fenced_step(&device, kind, local, high, low), LM89_CODE_DONE, first, 0));
+    CHECK(same(&device, &expected));
+}
+
+static void test_conversions(void)
+{
+    converts(LM89_KIND_CONVERSION, 0x19, 0x19, 0x20, (lm89_sensed){0x19, 201, 0x00, 0, false, false}, 0x08);
+    converts(LM89_KIND_CONVERSION, 0x19, 0xFF, 0xE0, (lm89_sensed){0x19, -1, 0x08, 1, false, false}, 0x09);
+    converts(LM89_KIND_CONVERSION, 0x80, 0x80, 0x00, (lm89_sensed){0x80, -1024, 0x28, 1, false, false}, 0x09);
+    converts(LM89_KIND_CONVERSION, 0x19, 0x7F, 0xE0, (lm89_sensed){0x19, 1023, 0x12, 1, false, true}, 0x0B);
+    converts(LM89_KIND_CONVERSION, 0x7F, 0x19, 0x00, (lm89_sensed){0x7F, 200, 0x41, 0, true, false}, 0x0B);
+    converts(LM89_KIND_OPEN, 0x56, 0x00, 0x00, (lm89_sensed){0x56, 1016, 0x57, 1, true, true}, 0x0B);
+}
+
+static void test_faults(void)
+{
+    static const uint8_t counts[] = {1, 2, 3, 3};
+    lm89_device device = fresh();
+    for (unsigned i = 0; i < sizeof counts; i++) {
+        fenced_step(&device, LM89_KIND_CONVERSION, 0x19, 0xF0, 0x00);
+        CHECK(device.sensed.faults == counts[i]);
+        CHECK(device.sensed.remote == -128);
+    }
+    fenced_step(&device, LM89_KIND_CONVERSION, 0x19, 0x19, 0x00);
+    CHECK(device.sensed.faults == 0);
+    CHECK(device.sensed.live == 0x00);
+    CHECK(device.status == 0x08);
+}
+
+static void test_status_read(void)
+{
+    lm89_device device = fresh();
+    fenced_step(&device, LM89_KIND_CONVERSION, 0x47, 0x19, 0x00);
+    lm89_device expected = device;
+    CHECK(expected.status == 0x40);
+    expected.status = 0;
+    expected.pointer = 0x02;
+    expected.settings[0] = 0x80;
+    CHECK(is(fenced_step(&device, LM89_KIND_READ, HERE, 0x02, 0), LM89_CODE_DONE, LM89_ANSWER_ACKNOWLEDGED, 0x40));
+    CHECK(same(&device, &expected));
+}
+
+static void test_pending(void)
+{
+    lm89_device device = fresh();
+    fenced_step(&device, LM89_KIND_WRITE, HERE, 0x09, 0x40);
+    lm89_device expected = device;
+    CHECK(is(fenced_step(&device, LM89_KIND_CONVERSION, 0x19, 0x19, 0x00), LM89_CODE_DONE, 0, 0));
+    CHECK(same(&device, &expected));
+    expected.pointer = 0x0F;
+    expected.pending = true;
+    CHECK(is(fenced_step(&device, LM89_KIND_WRITE, HERE, 0x0F, 0x5A), LM89_CODE_DONE, LM89_ANSWER_ACKNOWLEDGED, 0));
+    CHECK(same(&device, &expected));
+    expected.pending = false;
+    expected.sensed.local = 0x19;
+    expected.sensed.remote = 200;
+    CHECK(is(fenced_step(&device, LM89_KIND_CONVERSION, 0x19, 0x19, 0x00), LM89_CODE_DONE, LM89_ANSWER_TAKEN, 0));
+    CHECK(same(&device, &expected));
+}
+
+/* A device with something in every field, left by a conversion in standby after a one-shot, then a second one-shot. */
+static lm89_device busy(void)
+{
+    lm89_device device = fresh();
+    fenced_step(&device, LM89_KIND_WRITE, HERE, 0x09, 0x40);
+    fenced_step(&device, LM89_KIND_WRITE, HERE, 0x0F, 0x00);
+    fenced_step(&device, LM89_KIND_OPEN, 0x60, 0, 0);
+    fenced_step(&device, LM89_KIND_WRITE, HERE, 0x0F, 0x00);
+    CHECK(device.pending && device.sensed.llatch && device.sensed.rlatch);
+    CHECK(device.status == 0x57 && device.sensed.live == 0x57 && device.sensed.faults == 1);
+    return device;
+}
+
+static void test_kinds(void)
+{
+    lm89_device device = busy();
+    CHECK(refused(&device, LM89_CODE_KIND, 0, 0, 0, 0));
+    for (unsigned kind = 8; kind < 256; kind++) {
+        CHECK(refused(&device, LM89_CODE_KIND, (uint8_t)kind, 0xFF, 0xFF, 0xFF));
+    }
+}
+
+static void test_operands(void)
+{
+    static const uint8_t outside[][4] = {
+        {LM89_KIND_WRITE, 0x80, 0x09, 0x00},      {LM89_KIND_READ, 0x80, 0x00, 0x00},
+        {LM89_KIND_READ, HERE, 0x00, 0x01},       {LM89_KIND_SEND, 0x80, 0x00, 0x00},
+        {LM89_KIND_SEND, HERE, 0x00, 0x01},       {LM89_KIND_RECEIVE, 0x80, 0x00, 0x00},
+        {LM89_KIND_RECEIVE, HERE, 0x01, 0x00},    {LM89_KIND_RECEIVE, HERE, 0x00, 0x01},
+        {LM89_KIND_CONVERSION, 0x19, 0x19, 0x01}, {LM89_KIND_CONVERSION, 0x19, 0x19, 0x10},
+        {LM89_KIND_OPEN, 0x19, 0x01, 0x00},       {LM89_KIND_OPEN, 0x19, 0x00, 0x20},
+        {LM89_KIND_POWER_ON, 0x01, 0x00, 0x00},   {LM89_KIND_POWER_ON, 0x00, 0x01, 0x00},
+        {LM89_KIND_POWER_ON, 0x00, 0x00, 0x01},
+    };
+    lm89_device device = busy();
+    for (unsigned i = 0; i < sizeof outside / sizeof outside[0]; i++) {
+        const uint8_t *q = outside[i];
+        CHECK(refused(&device, LM89_CODE_OPERAND, q[0], q[1], q[2], q[3]));
+    }
+}
+
+/* Code 8 for the device, before 3 and before 4. */
+static bool out_of_range(lm89_device device)
+{
+    return refused(&device, LM89_CODE_RANGE, LM89_KIND_POWER_ON, 0, 0, 0)
+        && refused(&device, LM89_CODE_RANGE, 0, 0, 0, 0)
+        && refused(&device, LM89_CODE_RANGE, LM89_KIND_POWER_ON, 1, 0, 0);
+}
+
+static void test_zeros(void)
+{
+    lm89_device device = zeros();
+    static const uint8_t zero[sizeof device];
+    CHECK(is(lm89_step(&device, LM89_KIND_READ, HERE, 0x00, 0), LM89_CODE_RANGE, 0, 0));
+    CHECK(memcmp(&device, zero, sizeof zero) == 0);
+    CHECK(out_of_range(device));
+}
+
+#define OUT_OF_RANGE(field, value)     \
+    do {                               \
+        lm89_device device = busy();   \
+        device.field = (value);        \
+        CHECK(out_of_range(device));   \
+    } while (0)
+
+static void test_ranges(void)
+{
+    OUT_OF_RANGE(variant, 0);
+    OUT_OF_RANGE(variant, 4);
+    OUT_OF_RANGE(pointer, 0x30);
+    OUT_OF_RANGE(status, 0x80);
+    OUT_OF_RANGE(settings[0], 0x00);
+    OUT_OF_RANGE(sensed.live, 0x80);
+    OUT_OF_RANGE(sensed.faults, 4);
+    OUT_OF_RANGE(sensed.remote, 1024);
+    OUT_OF_RANGE(sensed.remote, -1025);
+    for (unsigned i = 0; i < SETTINGS; i++) {
+        if (kept[i] != 0xFF) {
+            OUT_OF_RANGE(settings[i], 0xFF);
+        }
+    }
+}
+
+int main(void)
+{
+    test_power_on();
+    test_pointer();
+    test_writes();
+    test_conversions();
+    test_faults();
+    test_status_read();
+    test_pending();
+    test_kinds();
+    test_operands();
+    test_zeros();
+    test_ranges();
+    return 0;
+}

@@ -1,0 +1,204 @@
+/* lm89_run: empty slices, short room, prefixes, refusals, and a long capture against the step. */
+#include <string.h>
+
+#include "check.h"
+#include "lm89.h"
+
+#define HEADER 6
+#define UNTOUCHED 0xA7
+
+/* Two records: a write of the local high limit, and a read of it. */
+static const uint8_t two[] = {
+    0x01, LM89_VARIANT_LM89_1C, 0x00, 0x00, 0x00, 0x02,
+    LM89_KIND_WRITE, LM89_ADDRESS_LM89_1C, 0x0B, 0x50,
+    LM89_KIND_READ, LM89_ADDRESS_LM89_1C, 0x05, 0x00,
+};
+
+static const uint8_t two_answers[] = {0x04, 0x00, 0x04, 0x50};
+
+static bool all(const uint8_t *bytes, size_t length, uint8_t value)
+{
+    for (size_t i = 0; i < length; i++) {
+        if (bytes[i] != value) {
+            return false;
+        }
+    }
+    return true;
+}
+
+/* The capture in the given room writes this much of two_answers, and not a byte behind, and ends with this code. */
+static bool runs(const uint8_t *capture, size_t length, size_t room, size_t written, unsigned code)
+{
+    uint8_t answers[16];
+    memset(answers, UNTOUCHED, sizeof answers);
+    return lm89_run(capture, length, answers, room) == 16 * written + code
+        && memcmp(answers, two_answers, written) == 0
+        && all(answers + written, sizeof answers - written, UNTOUCHED);
+}
+
+static void test_empty(void)
+{
+    uint8_t answers[4] = {UNTOUCHED, UNTOUCHED, UNTOUCHED, UNTOUCHED};
+    CHECK(lm89_run(NULL, 0, NULL, 0) == LM89_CODE_CUT_SHORT);
+    CHECK(lm89_run(NULL, 0, answers, sizeof answers) == LM89_CODE_CUT_SHORT);
+    CHECK(all(answers, sizeof answers, UNTOUCHED));
+    CHECK(lm89_run(two, sizeof two, NULL, 0) == LM89_CODE_NO_ROOM);
+    CHECK(lm89_run(two, HEADER, NULL, 0) == LM89_CODE_CUT_SHORT);
+}
+
+static void test_room(void)
+{
+    CHECK(runs(two, sizeof two, 0, 0, LM89_CODE_NO_ROOM));
+    CHECK(runs(two, sizeof two, 1, 0, LM89_CODE_NO_ROOM));
+    CHECK(runs(two, sizeof two, 2, 2, LM89_CODE_NO_ROOM));
+    CHECK(runs(two, sizeof two, 3, 2, LM89_CODE_NO_ROOM));
+    CHECK(runs(two, sizeof two, 4, 4, LM89_CODE_DONE));
+    CHECK(runs(two, sizeof two, 5, 4, LM89_CODE_DONE));
+    CHECK(runs(two, sizeof two, 16, 4, LM89_CODE_DONE));
+}
+
+static void test_prefixes(void)
+{
+    for (size_t length = 0; length < sizeof two; length++) {
+        size_t written = length < HEADER ? 0 : 2 * ((length - HEADER) / 4);
+        CHECK(runs(two, length, 16, written, LM89_CODE_CUT_SHORT));
+    }
+}
+
+/* The two records with one byte changed. */
+static bool changed(size_t at, uint8_t byte, size_t room, size_t written, unsigned code)
+{
+    uint8_t capture[sizeof two];
+    memcpy(capture, two, sizeof two);
+    capture[at] = byte;
+    return runs(capture, sizeof capture, room, written, code);
+}
+
+static void test_codes(void)
+{
+    CHECK(changed(0, 0, 16, 0, LM89_CODE_DEVICE_COUNT));
+    CHECK(changed(0, 2, 16, 0, LM89_CODE_DEVICE_COUNT));
+    CHECK(changed(1, 0, 16, 0, LM89_CODE_VARIANT));
+    CHECK(changed(1, 4, 16, 0, LM89_CODE_VARIANT));
+    CHECK(changed(5, 0, 16, 0, LM89_CODE_PAST_END));
+    CHECK(changed(5, 1, 16, 2, LM89_CODE_PAST_END));
+    CHECK(changed(5, 3, 16, 4, LM89_CODE_CUT_SHORT));
+    CHECK(changed(2, 1, 16, 4, LM89_CODE_CUT_SHORT));
+    CHECK(changed(HEADER, 8, 0, 0, LM89_CODE_KIND));
+    CHECK(changed(HEADER + 1, 0x80, 0, 0, LM89_CODE_OPERAND));
+    CHECK(changed(HEADER + 4, 0, 3, 2, LM89_CODE_KIND));
+    CHECK(changed(HEADER + 7, 1, 3, 2, LM89_CODE_OPERAND));
+}
+
+/* A fixed row of numbers (xorshift). */
+static uint32_t next(uint32_t *seed)
+{
+    *seed ^= *seed << 13;
+    *seed ^= *seed >> 17;
+    *seed ^= *seed << 5;
+    return *seed;
+}
+
+static uint8_t some_address(uint32_t n)
+{
+    static const uint8_t addresses[] = {
+        LM89_ADDRESS_LM89C, LM89_ADDRESS_LM89C, LM89_ADDRESS_LM89C, LM89_ADDRESS_LM89C,
+        LM89_ADDRESS_LM89C, LM89_ADDRESS_LM89C, LM89_ADDRESS_LM89_1C, LM89_ADDRESS_ALERT_RESPONSE,
+    };
+    return addresses[n % sizeof addresses];
+}
+
+static uint8_t some_register(uint32_t n)
+{
+    static const uint8_t registers[] = {
+        0x00, 0x01, 0x02, 0x02, 0x03, 0x04, 0x05, 0x06, 0x07, 0x08, 0x09, 0x09, 0x0A, 0x0B, 0x0C, 0x0D,
+        0x0E, 0x0F, 0x0F, 0x10, 0x11, 0x12, 0x13, 0x14, 0x19, 0x20, 0x21, 0xBF, 0xBF, 0xFE, 0xFF, 0x30,
+    };
+    return registers[n % sizeof registers];
+}
+
+static void some_record(uint32_t *seed, uint8_t *record)
+{
+    static const uint8_t kinds[] = {
+        LM89_KIND_WRITE, LM89_KIND_WRITE, LM89_KIND_READ, LM89_KIND_READ, LM89_KIND_SEND, LM89_KIND_RECEIVE,
+        LM89_KIND_RECEIVE, LM89_KIND_CONVERSION, LM89_KIND_CONVERSION, LM89_KIND_CONVERSION, LM89_KIND_OPEN,
+    };
+    uint32_t n = next(seed);
+    bool restart = n % 256 == 0;
+    uint8_t kind = restart ? LM89_KIND_POWER_ON : kinds[(n >> 8) % sizeof kinds];
+    bool converts = kind == LM89_KIND_CONVERSION || kind == LM89_KIND_OPEN;
+    bool has_register = kind == LM89_KIND_WRITE || kind == LM89_KIND_READ || kind == LM89_KIND_SEND;
+    uint32_t m = next(seed);
+    memset(record, 0, 4);
+    record[0] = kind;
+    if (!restart) {
+        record[1] = converts ? (uint8_t)m : some_address(m);
+    }
+    if (has_register) {
+        record[2] = some_register(m >> 8);
+    }
+    if (kind == LM89_KIND_WRITE) {
+        record[3] = (uint8_t)(m >> 16);
+    }
+    if (kind == LM89_KIND_CONVERSION) {
+        record[2] = (uint8_t)(m >> 8);
+        record[3] = (uint8_t)(m >> 16 & 0xE0);
+    }
+}
+
+#define LONG_RECORDS ((size_t)1 << 20)
+#define LONG_CAPTURE (HEADER + 4 * LONG_RECORDS)
+#define LONG_ANSWERS (2 * LONG_RECORDS)
+
+static void fill(uint8_t *capture)
+{
+    static const uint8_t header[HEADER] = {0x01, LM89_VARIANT_LM89C, 0x00, 0x10, 0x00, 0x00};
+    uint32_t seed = 0x4C4D3839;
+    memcpy(capture, header, HEADER);
+    for (size_t i = 0; i < LONG_RECORDS; i++) {
+        some_record(&seed, capture + HEADER + 4 * i);
+    }
+}
+
+static void step_all(const uint8_t *capture, uint8_t *answers)
+{
+    lm89_device device = lm89_power_on(LM89_VARIANT_LM89C);
+    for (size_t i = 0; i < LONG_RECORDS; i++) {
+        const uint8_t *q = capture + HEADER + 4 * i;
+        lm89_answer answer = lm89_step(&device, q[0], q[1], q[2], q[3]);
+        CHECK(answer.code == LM89_CODE_DONE);
+        answers[2 * i] = answer.first;
+        answers[2 * i + 1] = answer.second;
+    }
+}
+
+static void test_long(void)
+{
+    uint8_t *capture = malloc(LONG_CAPTURE);
+    uint8_t *answers = malloc(LONG_ANSWERS);
+    uint8_t *stepped = malloc(LONG_ANSWERS);
+    CHECK(capture != NULL && answers != NULL && stepped != NULL);
+    fill(capture);
+    step_all(capture, stepped);
+    CHECK(lm89_run(capture, LONG_CAPTURE, answers, LONG_ANSWERS) == 16 * LONG_ANSWERS + LM89_CODE_DONE);
+    CHECK(memcmp(answers, stepped, LONG_ANSWERS) == 0);
+
+    capture[HEADER + 4 * (LONG_RECORDS / 2)] = 0;
+    memset(answers, UNTOUCHED, LONG_ANSWERS);
+    CHECK(lm89_run(capture, LONG_CAPTURE, answers, LONG_ANSWERS) == 16 * LONG_RECORDS + LM89_CODE_KIND);
+    CHECK(memcmp(answers, stepped, LONG_RECORDS) == 0);
+    CHECK(all(answers + LONG_RECORDS, LONG_RECORDS, UNTOUCHED));
+    free(capture);
+    free(answers);
+    free(stepped);
+}
+
+int main(void)
+{
+    test_empty();
+    test_room();
+    test_prefixes();
+    test_codes();
+    test_long();
+    return 0;
+}
