@@ -1,13 +1,32 @@
-.PHONY: test demo clean
+PREFIX ?= /usr/local
+CAPTURE ?= samples/01-document.hex
 
-# What the gate runs.
+.PHONY: all build list lib test install clean
+
+all: list
+
+build:
+	@scripts/build.sh
+
+# The listing of a capture: raw bytes, or hex text in a file whose name ends with .hex.
+list: build
+	@case "$(CAPTURE)" in \
+	*.hex) python3 tests/hex.py <"$(CAPTURE)" ;; \
+	*) cat "$(CAPTURE)" ;; \
+	esac | build/bin/lm89-listing
+
+lib: build
+	@ls build/lib/liblm89.a build/lib/lm89.h
+
+# The gate.
 test:
 	.ci/run
 
-# Document 01's listing, run on the device.
-demo:
-	rt check demo
-	@cat crates/demo/stdout
+install: build
+	install -d "$(DESTDIR)$(PREFIX)/include" "$(DESTDIR)$(PREFIX)/lib" "$(DESTDIR)$(PREFIX)/bin"
+	install -m 644 build/lib/lm89.h "$(DESTDIR)$(PREFIX)/include"
+	install -m 644 build/lib/liblm89.a "$(DESTDIR)$(PREFIX)/lib"
+	install -m 755 build/bin/* "$(DESTDIR)$(PREFIX)/bin"
 
 clean:
 	rm -rf build target

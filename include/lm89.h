@@ -1,8 +1,7 @@
 /*
  * The LM89 temperature sensor, modelled register for register.
  *
- * lm89_run takes a whole capture: libbench.a.
- * lm89_step and lm89_power_on keep one device in the caller's memory: libbench_step.a.
+ * lm89_run takes a whole capture; lm89_step and lm89_power_on keep one device in the caller's memory. Link liblm89.a.
  * None of them allocates, keeps anything between calls or touches memory other than what it is lent.
  */
 #ifndef LM89_H

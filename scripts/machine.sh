@@ -1,0 +1,45 @@
+# To be sourced: the kit's place, and how a C program for x86-64 is made and run on this machine.
+command -v rt >/dev/null || {
+    printf 'rt is not on the PATH: install the Rattle kit first\n' >&2
+    exit 1
+}
+machine=$(uname -m)
+kit=$(dirname "$(dirname "$(realpath "$(command -v rt)")")")
+toolchain=$kit/on/$machine/toolchain
+emulator=("$toolchain/bin/qemu-x86_64" "$toolchain/lib/ld-linux-x86-64.so.2" --library-path "$toolchain/lib")
+library=build/lib/liblm89.a
+flags=(-std=c11 -O2 -Wall -Wextra -Werror -pedantic -Iinclude)
+
+# Object OUT of SOURCE for x86-64: by the machine's clang, else by the kit's with the headers of the machine's cc.
+compile_across() {
+    local clang=(clang)
+    command -v clang >/dev/null || clang=("$toolchain/bin/clang" -isystem "$(cc -print-file-name=include)")
+    "${clang[@]}" --target=x86_64-unknown-linux-gnu -fPIE "${flags[@]}" \
+        -isystem /usr/include -isystem "/usr/include/$machine-linux-gnu" -c "$2" -o "$1"
+}
+
+# Program OUT of OUT.o, by the kit; what the linker says is shown only where it fails.
+link_across() {
+    "$kit/on/$machine/bin/rattle-link" --target x86_64-unknown-linux-gnu --toolchain "$toolchain" \
+        -o "$1" "$1.o" "$library" >"$1.log" 2>&1 || {
+        cat "$1.log"
+        return 1
+    }
+}
+
+# Program OUT of SOURCE. The library is x86-64 on every machine: elsewhere the kit's toolchain links and runs it.
+compile_link() {
+    if [ "$machine" = x86_64 ]; then
+        cc "${flags[@]}" -o "$1" "$2" "$library"
+    else
+        compile_across "$1.o" "$2" && link_across "$1"
+    fi
+}
+
+run() {
+    if [ "$machine" = x86_64 ]; then
+        "$@"
+    else
+        "${emulator[@]}" "$@"
+    fi
+}
