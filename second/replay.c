@@ -1,0 +1,354 @@
+/* Replays a stream of calls from standard input and writes their results to
+ * standard output.  It holds one reader and one device, all zeros at first.
+ * Numbers are big-endian; each output begins with its command byte.
+ *
+ *   N                                   fresh reader
+ *   R  reader dump                      set the reader
+ *   F  length 2, room 2, bytes          feed: code, consumed 4, written 4,
+ *                                       the room, reader dump
+ *   E                                   finish: code
+ *   D  device dump                      set the device
+ *   S  kind, x, y, z                    step: code, two answer bytes, device dump
+ *   W  kind, x, y, z, room 2            write event: code, the room
+ *   H  variant, count 4, room 2         write header: code, the room
+ *   B  four bytes                       decode: code, kind, three operands
+ *   C  length 4, room 4, bytes          run: result 8, the room
+ *
+ * Status 1 with a message on an unknown command, a kind outside 1 to 7 in S or
+ * W, a capture or room above 1,000,000 in C, or a stream cut inside a call. */
+#include "second.h"
+
+#include <stdio.h>
+#include <stdlib.h>
+#include <string.h>
+
+enum {
+    DEVICE_DUMP = 25,
+    READER_DUMP = 39,
+    CAPTURE_MOST = 1000000,
+    FILL = 0xA5
+};
+
+static uint64_t offset;      /* bytes of the stream taken so far */
+static int command;          /* the call being read */
+static uint64_t command_at;  /* where it began */
+
+/* ---- The stream -------------------------------------------------------- */
+
+static void leave(int status)
+{
+    if (fflush(stdout) != 0) {
+        fprintf(stderr, "replay: cannot write standard output\n");
+        status = 1;
+    }
+    exit(status);
+}
+
+static void refuse(const char *what, unsigned long value, uint64_t at)
+{
+    fprintf(stderr, "replay: %s 0x%02lX at byte offset %llu\n",
+            what, value, (unsigned long long)at);
+    leave(1);
+}
+
+static void get(uint8_t *bytes, size_t length)
+{
+    size_t got = length > 0 ? fread(bytes, 1, length, stdin) : 0;
+    offset += got;
+    if (got == length)
+        return;
+    fprintf(stderr, "replay: stream %s at byte offset %llu, inside the call %c begun at %llu\n",
+            ferror(stdin) ? "cannot be read" : "cut",
+            (unsigned long long)offset, command, (unsigned long long)command_at);
+    leave(1);
+}
+
+static uint32_t get_number(size_t length)
+{
+    uint8_t bytes[4];
+    uint32_t number = 0;
+    get(bytes, length);
+    for (size_t i = 0; i < length; i++)
+        number = number << 8 | bytes[i];
+    return number;
+}
+
+static void put(const uint8_t *bytes, size_t length)
+{
+    if (length > 0 && fwrite(bytes, 1, length, stdout) != length) {
+        fprintf(stderr, "replay: cannot write standard output\n");
+        exit(1);
+    }
+}
+
+static void put_byte(uint8_t byte)
+{
+    if (putc(byte, stdout) == EOF) {
+        fprintf(stderr, "replay: cannot write standard output\n");
+        exit(1);
+    }
+}
+
+static void put_number(uint64_t number, size_t length)
+{
+    for (size_t i = length; i-- > 0;)
+        put_byte((uint8_t)(number >> (8 * i)));
+}
+
+/* ---- Dumps ------------------------------------------------------------- */
+
+static void load_device(second_device *device, const uint8_t *dump)
+{
+    int remote = dump[5] << 8 | dump[6];
+    memset(device, 0, sizeof *device);
+    device->variant = dump[0];
+    device->pointer = dump[1];
+    device->pending = dump[2] != 0;
+    device->status = dump[3];
+    device->local = dump[4];
+    device->remote = (int16_t)(remote < 0x8000 ? remote : remote - 0x10000);
+    device->live = dump[7];
+    device->faults = dump[8];
+    device->local_latch = dump[9] != 0;
+    device->remote_latch = dump[10] != 0;
+    memcpy(device->settings, dump + 11, SECOND_SETTINGS);
+}
+
+static void put_device(const second_device *device)
+{
+    uint8_t dump[DEVICE_DUMP];
+    uint16_t remote = (uint16_t)device->remote;
+    dump[0] = device->variant;
+    dump[1] = device->pointer;
+    dump[2] = device->pending;
+    dump[3] = device->status;
+    dump[4] = device->local;
+    dump[5] = (uint8_t)(remote >> 8);
+    dump[6] = (uint8_t)(remote & 0xFFu);
+    dump[7] = device->live;
+    dump[8] = device->faults;
+    dump[9] = device->local_latch;
+    dump[10] = device->remote_latch;
+    memcpy(dump + 11, device->settings, SECOND_SETTINGS);
+    put(dump, sizeof dump);
+}
+
+static void get_device(second_device *device)
+{
+    uint8_t dump[DEVICE_DUMP];
+    get(dump, sizeof dump);
+    load_device(device, dump);
+}
+
+static uint32_t number_at(const uint8_t *bytes)
+{
+    return (uint32_t)bytes[0] << 24 | (uint32_t)bytes[1] << 16 |
+           (uint32_t)bytes[2] << 8 | bytes[3];
+}
+
+static void get_reader(second_reader *reader)
+{
+    uint8_t dump[READER_DUMP];
+    get(dump, sizeof dump);
+    memset(reader, 0, sizeof *reader);
+    reader->header = dump[0];
+    reader->count = number_at(dump + 1);
+    reader->done = number_at(dump + 5);
+    reader->carried = dump[9];
+    memcpy(reader->carry, dump + 10, 3);
+    reader->held = dump[13];
+    load_device(&reader->device, dump + 14);
+}
+
+static void put_reader(const second_reader *reader)
+{
+    put_byte(reader->header);
+    put_number(reader->count, 4);
+    put_number(reader->done, 4);
+    put_byte(reader->carried);
+    put(reader->carry, 3);
+    put_byte(reader->held);
+    put_device(&reader->device);
+}
+
+static second_event get_event(void)
+{
+    uint64_t at = offset;
+    uint8_t bytes[4];
+    get(bytes, 4);
+    if (bytes[0] < SECOND_WRITE || bytes[0] > SECOND_POWER_ON)
+        refuse("kind outside 1 to 7,", bytes[0], at);
+    second_event event = { bytes[0], bytes[1], bytes[2], bytes[3] };
+    return event;
+}
+
+/* Memory of exactly this size, filled, so that a sanitizer sees any touch
+ * beyond it; none at all for size 0. */
+static uint8_t *lend(uint32_t size)
+{
+    if (size == 0)
+        return NULL;
+    uint8_t *bytes = malloc(size);
+    if (bytes == NULL) {
+        fprintf(stderr, "replay: no memory at byte offset %llu\n", (unsigned long long)offset);
+        leave(1);
+    }
+    memset(bytes, FILL, size);
+    return bytes;
+}
+
+/* ---- Calls ------------------------------------------------------------- */
+
+static void call_feed(second_reader *reader)
+{
+    uint32_t length = get_number(2);
+    uint32_t room = get_number(2);
+    uint8_t *input = lend(length);
+    get(input, length);
+    uint8_t *answers = lend(room);
+    second_feed_result fed = second_feed(reader, input, length, answers, room);
+    put_byte('F');
+    put_byte(fed.code);
+    put_number(fed.consumed, 4);
+    put_number(fed.written, 4);
+    put(answers, room);
+    put_reader(reader);
+    free(answers);
+    free(input);
+}
+
+static void call_step(second_device *device)
+{
+    second_event event = get_event();
+    second_step_result result = second_step(device, event);
+    put_byte('S');
+    put_byte(result.code);
+    put_byte(result.first);
+    put_byte(result.second);
+    put_device(device);
+}
+
+static void call_write_event(void)
+{
+    second_event event = get_event();
+    uint32_t room = get_number(2);
+    uint8_t *buffer = lend(room);
+    uint8_t code = second_write_event(event, buffer, room);
+    put_byte('W');
+    put_byte(code);
+    put(buffer, room);
+    free(buffer);
+}
+
+static void call_write_header(void)
+{
+    uint8_t variant = (uint8_t)get_number(1);
+    uint32_t count = get_number(4);
+    uint32_t room = get_number(2);
+    uint8_t *buffer = lend(room);
+    uint8_t code = second_write_header(variant, count, buffer, room);
+    put_byte('H');
+    put_byte(code);
+    put(buffer, room);
+    free(buffer);
+}
+
+static void call_decode(void)
+{
+    uint8_t record[SECOND_RECORD_BYTES];
+    second_event event;
+    get(record, sizeof record);
+    uint8_t code = second_decode(record, &event);
+    put_byte('B');
+    put_byte(code);
+    put_byte(event.kind);
+    put_byte(event.a);
+    put_byte(event.b);
+    put_byte(event.c);
+}
+
+static void call_run(void)
+{
+    uint64_t at = offset;
+    uint32_t length = get_number(4);
+    uint32_t room = get_number(4);
+    if (length > CAPTURE_MOST)
+        refuse("capture length above 1000000,", length, at);
+    if (room > CAPTURE_MOST)
+        refuse("room above 1000000,", room, at + 4);
+    uint8_t *input = lend(length);
+    get(input, length);
+    uint8_t *answers = lend(room);
+    uint64_t result = second_run(input, length, answers, room);
+    put_byte('C');
+    put_number(result, 8);
+    put(answers, room);
+    free(answers);
+    free(input);
+}
+
+int main(void)
+{
+    static char in_buffer[1 << 20];
+    static char out_buffer[1 << 20];
+    second_reader reader;
+    second_device device;
+
+    setvbuf(stdin, in_buffer, _IOFBF, sizeof in_buffer);
+    setvbuf(stdout, out_buffer, _IOFBF, sizeof out_buffer);
+    memset(&reader, 0, sizeof reader);
+    memset(&device, 0, sizeof device);
+
+    for (;;) {
+        command = getc(stdin);
+        if (command == EOF)
+            break;
+        command_at = offset;
+        offset++;
+        switch (command) {
+        case 'N':
+            second_fresh(&reader);
+            put_byte('N');
+            break;
+        case 'R':
+            get_reader(&reader);
+            put_byte('R');
+            break;
+        case 'F':
+            call_feed(&reader);
+            break;
+        case 'E':
+            put_byte('E');
+            put_byte(second_finish(&reader));
+            break;
+        case 'D':
+            get_device(&device);
+            put_byte('D');
+            break;
+        case 'S':
+            call_step(&device);
+            break;
+        case 'W':
+            call_write_event();
+            break;
+        case 'H':
+            call_write_header();
+            break;
+        case 'B':
+            call_decode();
+            break;
+        case 'C':
+            call_run();
+            break;
+        default:
+            refuse("unknown command,", (unsigned long)command, command_at);
+        }
+    }
+    if (ferror(stdin)) {
+        fprintf(stderr, "replay: stream cannot be read at byte offset %llu\n",
+                (unsigned long long)offset);
+        leave(1);
+    }
+    leave(0);
+    return 0;
+}

@@ -1,0 +1,764 @@
+/* The core of the second implementation; see second.h and NOTES.md.
+ * P1 to P12 are the rulings of document 01. */
+#include "second.h"
+
+#include <string.h>
+
+/* ---- Registers --------------------------------------------------------- */
+
+/* Places of the settable bytes in settings[], by rising write address. */
+enum {
+    SET_CONFIGURATION,    /* read 03, written 09 */
+    SET_RATE,             /* 04, 0A */
+    SET_LOCAL_HIGH,       /* 05, 0B */
+    SET_LOCAL_LOW,        /* 06, 0C */
+    SET_REMOTE_HIGH,      /* 07, 0D */
+    SET_REMOTE_LOW,       /* 08, 0E */
+    SET_OFFSET,           /* 11 */
+    SET_OFFSET_FINE,      /* 12 */
+    SET_REMOTE_HIGH_FINE, /* 13 */
+    SET_REMOTE_LOW_FINE,  /* 14 */
+    SET_REMOTE_CRIT,      /* 19 */
+    SET_LOCAL_CRIT,       /* 20 */
+    SET_HYSTERESIS,       /* 21 */
+    SET_FILTER_ALERT      /* BF */
+};
+
+/* What a register address means to a read or to a write.  A settable byte at
+ * place n of settings[] is ROLE_SETTING + n; 0 is no such register. */
+enum {
+    ROLE_NONE = 0,
+    ROLE_SETTING = 1,
+    ROLE_LOCAL = ROLE_SETTING + SECOND_SETTINGS,
+    ROLE_REMOTE_HIGH,
+    ROLE_REMOTE_LOW,
+    ROLE_STATUS,
+    ROLE_MAKER,
+    ROLE_DIE,
+    ROLE_ONE_SHOT
+};
+
+static const uint8_t read_role[256] = {
+    [0x00] = ROLE_LOCAL,
+    [0x01] = ROLE_REMOTE_HIGH,
+    [0x02] = ROLE_STATUS,
+    [0x03] = ROLE_SETTING + SET_CONFIGURATION,
+    [0x04] = ROLE_SETTING + SET_RATE,
+    [0x05] = ROLE_SETTING + SET_LOCAL_HIGH,
+    [0x06] = ROLE_SETTING + SET_LOCAL_LOW,
+    [0x07] = ROLE_SETTING + SET_REMOTE_HIGH,
+    [0x08] = ROLE_SETTING + SET_REMOTE_LOW,
+    [0x10] = ROLE_REMOTE_LOW,
+    [0x11] = ROLE_SETTING + SET_OFFSET,
+    [0x12] = ROLE_SETTING + SET_OFFSET_FINE,
+    [0x13] = ROLE_SETTING + SET_REMOTE_HIGH_FINE,
+    [0x14] = ROLE_SETTING + SET_REMOTE_LOW_FINE,
+    [0x19] = ROLE_SETTING + SET_REMOTE_CRIT,
+    [0x20] = ROLE_SETTING + SET_LOCAL_CRIT,
+    [0x21] = ROLE_SETTING + SET_HYSTERESIS,
+    [0xBF] = ROLE_SETTING + SET_FILTER_ALERT,
+    [0xFE] = ROLE_MAKER,
+    [0xFF] = ROLE_DIE
+};
+
+static const uint8_t write_role[256] = {
+    [0x09] = ROLE_SETTING + SET_CONFIGURATION,
+    [0x0A] = ROLE_SETTING + SET_RATE,
+    [0x0B] = ROLE_SETTING + SET_LOCAL_HIGH,
+    [0x0C] = ROLE_SETTING + SET_LOCAL_LOW,
+    [0x0D] = ROLE_SETTING + SET_REMOTE_HIGH,
+    [0x0E] = ROLE_SETTING + SET_REMOTE_LOW,
+    [0x0F] = ROLE_ONE_SHOT,
+    [0x11] = ROLE_SETTING + SET_OFFSET,
+    [0x12] = ROLE_SETTING + SET_OFFSET_FINE,
+    [0x13] = ROLE_SETTING + SET_REMOTE_HIGH_FINE,
+    [0x14] = ROLE_SETTING + SET_REMOTE_LOW_FINE,
+    [0x19] = ROLE_SETTING + SET_REMOTE_CRIT,
+    [0x20] = ROLE_SETTING + SET_LOCAL_CRIT,
+    [0x21] = ROLE_SETTING + SET_HYSTERESIS,
+    [0xBF] = ROLE_SETTING + SET_FILTER_ALERT
+};
+
+/* Kept bits of the settable bytes. */
+static const uint8_t kept[SECOND_SETTINGS] = {
+    [SET_CONFIGURATION] = 0xD5,
+    [SET_RATE] = 0xFF,
+    [SET_LOCAL_HIGH] = 0xFF,
+    [SET_LOCAL_LOW] = 0xFF,
+    [SET_REMOTE_HIGH] = 0xFF,
+    [SET_REMOTE_LOW] = 0xFF,
+    [SET_OFFSET] = 0xFF,
+    [SET_OFFSET_FINE] = 0xE0,
+    [SET_REMOTE_HIGH_FINE] = 0xE0,
+    [SET_REMOTE_LOW_FINE] = 0xE0,
+    [SET_REMOTE_CRIT] = 0xFF,
+    [SET_LOCAL_CRIT] = 0xFF,
+    [SET_HYSTERESIS] = 0x1F,
+    [SET_FILTER_ALERT] = 0x07
+};
+
+/* What differs between variants; the table is indexed by variant, 0 unused. */
+static const struct {
+    uint8_t address;
+    uint8_t local_crit;
+    uint8_t die;         /* register FF */
+} part[4] = {
+    { 0x00, 0, 0x00 },
+    { 0x4C, 85, 0x31 },  /* LM89C */
+    { 0x4D, 85, 0x34 },  /* LM89-1C */
+    { 0x4D, 105, 0x35 }  /* LM89-1D */
+};
+
+enum {
+    MAKER_ID = 0x01,     /* register FE */
+    ALERT_RESPONSE = 0x0C,
+    ADDRESS_MOST = 0x7F
+};
+
+/* Status and live byte. */
+enum {
+    LHIGH = 0x40,
+    LLOW = 0x20,
+    RHIGH = 0x10,
+    RLOW = 0x08,
+    OPEN = 0x04,
+    RCRIT = 0x02,
+    LCRIT = 0x01,
+    BUSY = 0x80,
+    ALERTING = 0x7B      /* the bits that can pull ALERT */
+};
+
+/* Configuration. */
+enum {
+    ALERT_MASK = 0x80,
+    STANDBY = 0x40,
+    REMOTE_CRIT_MASK = 0x10,
+    LOCAL_CRIT_MASK = 0x04,
+    FAULT_QUEUE = 0x01
+};
+
+enum { COMPARATOR = 0x01 };  /* BF */
+
+/* First answer byte. */
+enum {
+    ANSWER_ALERT = 0x01,
+    ANSWER_T_CRIT_A = 0x02,
+    ANSWER_ACKNOWLEDGED = 0x04,
+    ANSWER_TAKEN = 0x08
+};
+
+enum {
+    REMOTE_LEAST = -1024,
+    REMOTE_MOST = 1023,
+    REMOTE_OPEN = 1016,
+    FAULTS_MOST = 3
+};
+
+static bool variant_known(uint8_t variant)
+{
+    return variant >= 1 && variant <= 3;
+}
+
+/* ---- Temperatures (P1) ------------------------------------------------- */
+
+static inline int degrees(uint8_t byte)
+{
+    return (int)(byte ^ 0x80u) - 0x80;
+}
+
+static inline int eighths(uint8_t high, uint8_t low)
+{
+    return degrees(high) * 8 + (low >> 5);
+}
+
+static inline uint8_t high_byte(int remote)
+{
+    return (uint8_t)(((unsigned)remote >> 3) & 0xFFu);
+}
+
+static inline uint8_t low_byte(int remote)
+{
+    return (uint8_t)(((unsigned)remote & 7u) << 5);
+}
+
+/* ---- The device -------------------------------------------------------- */
+
+void second_power_on(second_device *device, uint8_t variant)
+{
+    memset(device, 0, sizeof *device);
+    device->variant = variant;
+    device->settings[SET_RATE] = 8;
+    device->settings[SET_LOCAL_HIGH] = 70;
+    device->settings[SET_REMOTE_HIGH] = 70;
+    device->settings[SET_REMOTE_CRIT] = 110;
+    device->settings[SET_LOCAL_CRIT] =
+        variant_known(variant) ? part[variant].local_crit : 85;
+    device->settings[SET_HYSTERESIS] = 10;
+}
+
+/* The device's ranges but for its variant. */
+static bool rest_in_range(const second_device *device)
+{
+    if (device->faults > FAULTS_MOST)
+        return false;
+    if (device->remote < REMOTE_LEAST || device->remote > REMOTE_MOST)
+        return false;
+    if (read_role[device->pointer] == ROLE_NONE &&
+        write_role[device->pointer] == ROLE_NONE)
+        return false;
+    if (((device->status | device->live) & BUSY) != 0)
+        return false;
+    for (size_t i = 0; i < SECOND_SETTINGS; i++)
+        if ((device->settings[i] & ~kept[i]) != 0)
+            return false;
+    if (device->pending &&
+        (device->settings[SET_CONFIGURATION] & STANDBY) == 0)
+        return false;
+    return true;
+}
+
+bool second_device_in_range(const second_device *device)
+{
+    return variant_known(device->variant) && rest_in_range(device);
+}
+
+/* P7 */
+static inline bool alert_pulled(const second_device *device)
+{
+    const uint8_t *set = device->settings;
+    uint8_t bits = (set[SET_FILTER_ALERT] & COMPARATOR) != 0 ? device->live
+                                                             : device->status;
+    return ((set[SET_CONFIGURATION] & ALERT_MASK) == 0) & ((bits & ALERTING) != 0);
+}
+
+/* P8, last but one sentence */
+static inline bool t_crit_a_pulled(const second_device *device)
+{
+    uint8_t configuration = device->settings[SET_CONFIGURATION];
+    return (device->local_latch & ((configuration & LOCAL_CRIT_MASK) == 0)) |
+           (device->remote_latch & ((configuration & REMOTE_CRIT_MASK) == 0));
+}
+
+/* P6 */
+static uint8_t read_status(second_device *device)
+{
+    uint8_t *set = device->settings;
+    uint8_t status = device->status;
+    device->status = 0;
+    if ((set[SET_FILTER_ALERT] & COMPARATOR) == 0 && (status & ALERTING) != 0)
+        set[SET_CONFIGURATION] |= ALERT_MASK;
+    return status;
+}
+
+/* Read a register: false if it is not in R. */
+static bool read_register(second_device *device, uint8_t address, uint8_t *value)
+{
+    uint8_t role = read_role[address];
+    switch (role) {
+    case ROLE_NONE:
+        return false;
+    case ROLE_LOCAL:
+        *value = device->local;
+        return true;
+    case ROLE_REMOTE_HIGH:
+        *value = high_byte(device->remote);
+        return true;
+    case ROLE_REMOTE_LOW:
+        *value = low_byte(device->remote); /* P12 */
+        return true;
+    case ROLE_STATUS:
+        *value = read_status(device);
+        return true;
+    case ROLE_MAKER:
+        *value = MAKER_ID;
+        return true;
+    case ROLE_DIE:
+        *value = part[device->variant & 3].die;
+        return true;
+    default:
+        *value = device->settings[role - ROLE_SETTING];
+        return true;
+    }
+}
+
+/* Write a register: false if it is not in W. */
+static bool write_register(second_device *device, uint8_t address, uint8_t value)
+{
+    uint8_t role = write_role[address];
+    if (role == ROLE_NONE)
+        return false;
+    if (role == ROLE_ONE_SHOT) { /* P11 */
+        if ((device->settings[SET_CONFIGURATION] & STANDBY) != 0)
+            device->pending = true;
+        return true;
+    }
+    uint8_t place = (uint8_t)(role - ROLE_SETTING);
+    device->settings[place] = value & kept[place];
+    if (place == SET_CONFIGURATION && (value & STANDBY) == 0)
+        device->pending = false; /* P11, leaving standby */
+    return true;
+}
+
+/* P8: what a latch becomes. */
+static inline bool latch_after(bool latch, bool critical, bool below)
+{
+    return critical | (latch & !below);
+}
+
+/* P3 to P5, P8 and P11: a conversion that gives this local byte and this
+ * remote reading, with OPEN or 0 as its open bit.  True if it is taken. */
+static inline bool convert(second_device *device, uint8_t local_byte, int remote,
+                           uint8_t open_bit)
+{
+    const uint8_t *set = device->settings;
+    if ((set[SET_CONFIGURATION] & STANDBY) != 0) {
+        if (!device->pending)
+            return false;
+        device->pending = false;
+    }
+
+    int local = degrees(local_byte);
+    int local_crit = degrees(set[SET_LOCAL_CRIT]);
+    int remote_crit = degrees(set[SET_REMOTE_CRIT]) * 8;
+    int hysteresis = set[SET_HYSTERESIS];
+
+    unsigned local_bits = 0;
+    if (local > degrees(set[SET_LOCAL_HIGH]))
+        local_bits |= LHIGH;
+    if (local < degrees(set[SET_LOCAL_LOW]))
+        local_bits |= LLOW;
+    if (local > local_crit)
+        local_bits |= LCRIT;
+
+    unsigned remote_bits = 0;
+    if (remote > eighths(set[SET_REMOTE_HIGH], set[SET_REMOTE_HIGH_FINE]))
+        remote_bits |= RHIGH;
+    if (remote < eighths(set[SET_REMOTE_LOW], set[SET_REMOTE_LOW_FINE]))
+        remote_bits |= RLOW;
+    if (remote > remote_crit)
+        remote_bits |= RCRIT;
+
+    /* P4 */
+    if (remote_bits == 0)
+        device->faults = 0;
+    else if (device->faults < FAULTS_MOST)
+        device->faults++;
+    if ((set[SET_CONFIGURATION] & FAULT_QUEUE) != 0 && device->faults < FAULTS_MOST)
+        remote_bits = 0;
+
+    /* P5 */
+    unsigned live = local_bits | remote_bits | open_bit;
+    device->local = local_byte;
+    device->remote = (int16_t)remote;
+    device->live = (uint8_t)live;
+    device->status |= (uint8_t)live;
+
+    /* P8, in int: limit minus hysteresis may lie below -128 */
+    device->local_latch = latch_after(device->local_latch, (live & LCRIT) != 0,
+                                      local < local_crit - hysteresis);
+    device->remote_latch = latch_after(device->remote_latch, (live & RCRIT) != 0,
+                                       remote < remote_crit - hysteresis * 8);
+    return true;
+}
+
+/* P2: sample plus offset, held to the eleven bits. */
+static inline int offset_reading(const second_device *device, uint8_t high, uint8_t low)
+{
+    int reading = eighths(high, low) +
+                  eighths(device->settings[SET_OFFSET], device->settings[SET_OFFSET_FINE]);
+    if (reading > REMOTE_MOST)
+        return REMOTE_MOST;
+    if (reading < REMOTE_LEAST)
+        return REMOTE_LEAST;
+    return reading;
+}
+
+/* P9 and P10: true if the receive is acknowledged. */
+static bool receive(second_device *device, uint8_t address, uint8_t *value)
+{
+    uint8_t own = part[device->variant & 3].address;
+    if (address == ALERT_RESPONSE) {
+        if ((device->settings[SET_FILTER_ALERT] & COMPARATOR) != 0 || !alert_pulled(device))
+            return false;
+        *value = (uint8_t)(own * 2u + 1u);
+        device->settings[SET_CONFIGURATION] |= ALERT_MASK;
+        return true;
+    }
+    return address == own && read_register(device, device->pointer, value);
+}
+
+/* One event within the table, on a device within its ranges. */
+static inline void apply(second_device *device, second_event event,
+                         uint8_t *first, uint8_t *second)
+{
+    uint8_t own = part[device->variant & 3].address;
+    uint8_t value = 0;
+    bool acknowledged = false;
+    bool taken = false;
+
+    switch (event.kind) {
+    case SECOND_WRITE:
+        acknowledged = event.a == own && write_register(device, event.b, event.c);
+        if (acknowledged)
+            device->pointer = event.b;
+        break;
+    case SECOND_READ:
+        acknowledged = event.a == own && read_register(device, event.b, &value);
+        if (acknowledged)
+            device->pointer = event.b;
+        break;
+    case SECOND_SEND:
+        acknowledged = event.a == own && (read_role[event.b] != ROLE_NONE ||
+                                          write_role[event.b] != ROLE_NONE);
+        if (acknowledged)
+            device->pointer = event.b;
+        break;
+    case SECOND_RECEIVE:
+        acknowledged = receive(device, event.a, &value);
+        break;
+    case SECOND_CONVERSION:
+        taken = convert(device, event.a, offset_reading(device, event.b, event.c), 0);
+        break;
+    case SECOND_CONVERSION_OPEN:
+        taken = convert(device, event.a, REMOTE_OPEN, OPEN);
+        break;
+    default: /* power-on */
+        second_power_on(device, device->variant);
+        break;
+    }
+
+    *first = (uint8_t)((alert_pulled(device) ? ANSWER_ALERT : 0) |
+                       (t_crit_a_pulled(device) ? ANSWER_T_CRIT_A : 0) |
+                       (acknowledged ? ANSWER_ACKNOWLEDGED : 0) |
+                       (taken ? ANSWER_TAKEN : 0));
+    *second = value;
+}
+
+/* ---- Events and records ------------------------------------------------ */
+
+/* The operand table as bits of a, b and c that must be 0, by kind. */
+static const uint8_t must_be_zero[SECOND_POWER_ON + 1][3] = {
+    [SECOND_WRITE] = { 0x80, 0x00, 0x00 },
+    [SECOND_READ] = { 0x80, 0x00, 0xFF },
+    [SECOND_SEND] = { 0x80, 0x00, 0xFF },
+    [SECOND_RECEIVE] = { 0x80, 0xFF, 0xFF },
+    [SECOND_CONVERSION] = { 0x00, 0x00, 0x1F },
+    [SECOND_CONVERSION_OPEN] = { 0x00, 0xFF, 0xFF },
+    [SECOND_POWER_ON] = { 0xFF, 0xFF, 0xFF }
+};
+
+static inline bool kind_known(uint8_t kind)
+{
+    return kind >= SECOND_WRITE && kind <= SECOND_POWER_ON;
+}
+
+/* 3, 4 or 0 for the four bytes of a record. */
+static inline uint8_t judge(second_event record)
+{
+    if (!kind_known(record.kind))
+        return SECOND_KIND;
+    const uint8_t *zero = must_be_zero[record.kind];
+    if (((record.a & zero[0]) | (record.b & zero[1]) | (record.c & zero[2])) != 0)
+        return SECOND_OPERAND;
+    return SECOND_OK;
+}
+
+/* The four bytes of an event's record: the places its kind has no operand for
+ * are those that must be 0 in all their bits. */
+static inline second_event as_record(second_event event)
+{
+    if (kind_known(event.kind)) {
+        const uint8_t *zero = must_be_zero[event.kind];
+        if (zero[0] == 0xFF)
+            event.a = 0;
+        if (zero[1] == 0xFF)
+            event.b = 0;
+        if (zero[2] == 0xFF)
+            event.c = 0;
+    }
+    return event;
+}
+
+uint8_t second_decode(const uint8_t record[SECOND_RECORD_BYTES], second_event *event)
+{
+    static const second_event none = { 0, 0, 0, 0 };
+    second_event raw = { record[0], record[1], record[2], record[3] };
+    uint8_t code = judge(raw);
+    *event = code == SECOND_OK ? raw : none;
+    return code;
+}
+
+uint8_t second_write_event(second_event event, uint8_t *out, size_t room)
+{
+    event = as_record(event);
+    if (judge(event) != SECOND_OK)
+        return SECOND_OPERAND;
+    if (room < SECOND_RECORD_BYTES)
+        return SECOND_ROOM;
+    out[0] = event.kind;
+    out[1] = event.a;
+    out[2] = event.b;
+    out[3] = event.c;
+    return SECOND_OK;
+}
+
+uint8_t second_write_header(uint8_t variant, uint32_t count, uint8_t *out, size_t room)
+{
+    if (!variant_known(variant))
+        return SECOND_VARIANT;
+    if (room < SECOND_HEADER_BYTES)
+        return SECOND_ROOM;
+    out[0] = 1;
+    out[1] = variant;
+    out[2] = (uint8_t)(count >> 24);
+    out[3] = (uint8_t)(count >> 16);
+    out[4] = (uint8_t)(count >> 8);
+    out[5] = (uint8_t)count;
+    return SECOND_OK;
+}
+
+second_step_result second_step(second_device *device, second_event event)
+{
+    second_step_result result = { SECOND_OK, 0, 0 };
+    if (!second_device_in_range(device))
+        result.code = SECOND_STATE;
+    else if (judge(as_record(event)) != SECOND_OK)
+        result.code = SECOND_OPERAND;
+    else
+        apply(device, event, &result.first, &result.second);
+    return result;
+}
+
+/* ---- The reader -------------------------------------------------------- */
+
+void second_fresh(second_reader *reader)
+{
+    memset(reader, 0, sizeof *reader);
+}
+
+bool second_reader_in_range(const second_reader *reader)
+{
+    bool complete = reader->header == SECOND_HEADER_BYTES;
+
+    if (reader->header > SECOND_HEADER_BYTES)
+        return false;
+    if (reader->carried > 3)
+        return false;
+    if (reader->carried > 0 && (!complete || reader->done == reader->count))
+        return false;
+    for (size_t i = reader->carried; i < 3; i++)
+        if (reader->carry[i] != 0)
+            return false;
+    if (reader->header >= 2 && !variant_known(reader->device.variant))
+        return false;
+    if (!complete) {
+        unsigned count_bytes = reader->header > 2 ? reader->header - 2u : 0u;
+        if (reader->count >> (8u * count_bytes) != 0) /* by at most 24 */
+            return false;
+        if (reader->done != 0)
+            return false;
+    }
+    if (reader->done > reader->count)
+        return false;
+    if (reader->held > SECOND_EXTRA)
+        return false;
+    return rest_in_range(&reader->device);
+}
+
+/* Judge one header byte and, on 0, take it. */
+static uint8_t take_header_byte(second_reader *reader, uint8_t byte)
+{
+    if (reader->header == 0) {
+        if (byte != 1)
+            return SECOND_DEVICE_COUNT;
+    } else if (reader->header == 1) {
+        if (!variant_known(byte))
+            return SECOND_VARIANT;
+        second_power_on(&reader->device, byte);
+    } else {
+        reader->count = reader->count << 8 | byte;
+    }
+    reader->header++;
+    return SECOND_OK;
+}
+
+/* Judge four bytes as a record and, on 0, step the device and write the answer
+ * pair behind what is written. */
+static inline uint8_t take_record(second_device *device, const uint8_t *record,
+                                  uint8_t *answers, size_t room, size_t written)
+{
+    second_event event = { record[0], record[1], record[2], record[3] };
+    uint8_t code = judge(event);
+    if (code != SECOND_OK)
+        return code;
+    if (room - written < SECOND_ANSWER_BYTES)
+        return SECOND_ROOM;
+    uint8_t first;
+    uint8_t second;
+    apply(device, event, &first, &second);
+    answers[written] = first;
+    answers[written + 1] = second;
+    return SECOND_OK;
+}
+
+/* Records that lie whole in the input, none being carried: until the count is
+ * reached, fewer than four bytes are left, or a record is not taken.  The
+ * first three bytes of that record are consumed and carried. */
+static uint8_t take_whole_records(second_reader *reader,
+                                  const uint8_t *input, size_t length, size_t *at,
+                                  uint8_t *answers, size_t room, size_t *written)
+{
+    size_t in = *at;
+    size_t out = *written;
+    uint32_t left = reader->count - reader->done;
+    uint8_t code = SECOND_OK;
+
+    while (left > 0 && length - in >= SECOND_RECORD_BYTES) {
+        code = take_record(&reader->device, input + in, answers, room, out);
+        if (code != SECOND_OK) {
+            memcpy(reader->carry, input + in, 3);
+            reader->carried = 3;
+            in += 3;
+            break;
+        }
+        in += SECOND_RECORD_BYTES;
+        out += SECOND_ANSWER_BYTES;
+        left--;
+    }
+
+    reader->done = reader->count - left;
+    *at = in;
+    *written = out;
+    return code;
+}
+
+second_feed_result second_feed(second_reader *reader,
+                               const uint8_t *input, size_t length,
+                               uint8_t *answers, size_t room)
+{
+    second_feed_result result = { SECOND_OK, 0, 0 };
+    if (!second_reader_in_range(reader)) {
+        result.code = SECOND_STATE;
+        return result;
+    }
+    if (reader->held != SECOND_OK) {
+        result.code = reader->held;
+        return result;
+    }
+
+    size_t at = 0;
+    size_t written = 0;
+    uint8_t code = SECOND_OK;
+
+    while (at < length && code == SECOND_OK) {
+        if (reader->header < SECOND_HEADER_BYTES) {
+            code = take_header_byte(reader, input[at]);
+            if (code == SECOND_OK)
+                at++;
+        } else if (reader->done == reader->count) {
+            code = SECOND_EXTRA;
+        } else if (reader->carried == 0 && length - at >= SECOND_RECORD_BYTES) {
+            code = take_whole_records(reader, input, length, &at, answers, room, &written);
+        } else if (reader->carried < 3) {
+            reader->carry[reader->carried] = input[at];
+            reader->carried++;
+            at++;
+        } else {
+            uint8_t record[SECOND_RECORD_BYTES];
+            memcpy(record, reader->carry, 3);
+            record[3] = input[at];
+            code = take_record(&reader->device, record, answers, room, written);
+            if (code == SECOND_OK) {
+                memset(reader->carry, 0, sizeof reader->carry);
+                reader->carried = 0;
+                reader->done++;
+                written += SECOND_ANSWER_BYTES;
+                at++;
+            }
+        }
+    }
+
+    if (code >= SECOND_DEVICE_COUNT && code <= SECOND_EXTRA)
+        reader->held = code;
+    result.code = code;
+    result.consumed = at;
+    result.written = written;
+    return result;
+}
+
+uint8_t second_finish(const second_reader *reader)
+{
+    if (!second_reader_in_range(reader))
+        return SECOND_STATE;
+    if (reader->held != SECOND_OK)
+        return reader->held;
+    if (reader->header < SECOND_HEADER_BYTES || reader->done != reader->count)
+        return SECOND_UNFINISHED;
+    return SECOND_OK;
+}
+
+uint64_t second_run(const uint8_t *capture, size_t length,
+                    uint8_t *answers, size_t room)
+{
+    second_reader reader;
+    second_fresh(&reader);
+    second_feed_result fed = second_feed(&reader, capture, length, answers, room);
+    uint8_t code = fed.code != SECOND_OK ? fed.code : second_finish(&reader);
+    return (uint64_t)fed.written * 16u + code;
+}
+
+/* ---- The listing ------------------------------------------------------- */
+
+static size_t put_decimal(char *out, uint32_t number)
+{
+    char digits[10];
+    size_t n = 0;
+    do {
+        digits[n++] = (char)('0' + number % 10u);
+        number /= 10u;
+    } while (number != 0);
+    for (size_t i = 0; i < n; i++)
+        out[i] = digits[n - 1 - i];
+    return n;
+}
+
+static size_t put_hex(char *out, uint8_t byte)
+{
+    static const char digit[] = "0123456789ABCDEF";
+    out[0] = digit[byte >> 4];
+    out[1] = digit[byte & 15];
+    return 2;
+}
+
+static size_t put_line(char *out, size_t room, const char *line, size_t length)
+{
+    if (length > room)
+        return 0;
+    memcpy(out, line, length);
+    return length;
+}
+
+size_t second_listing_record(char *out, size_t room, uint32_t number,
+                             uint8_t first, uint8_t second)
+{
+    char line[SECOND_LINE_MOST];
+    size_t n = put_decimal(line, number);
+    line[n++] = ' ';
+    n += put_hex(line + n, first);
+    line[n++] = ' ';
+    n += put_hex(line + n, second);
+    line[n++] = '\n';
+    return put_line(out, room, line, n);
+}
+
+size_t second_listing_end(char *out, size_t room, uint32_t done, uint8_t code)
+{
+    char line[SECOND_LINE_MOST];
+    size_t n = 4;
+    memcpy(line, "end ", 4);
+    n += put_decimal(line + n, done);
+    line[n++] = ' ';
+    n += put_decimal(line + n, code);
+    line[n++] = '\n';
+    return put_line(out, room, line, n);
+}

@@ -1,0 +1,139 @@
+/* Second implementation of document 01 (01-scope.md), written from its words
+ * and the two datasheets alone.  The core: no allocation, no changing globals,
+ * every function total. */
+#ifndef SECOND_H
+#define SECOND_H
+
+#include <stdbool.h>
+#include <stddef.h>
+#include <stdint.h>
+
+/* Codes, "Codes of the reader". */
+enum {
+    SECOND_OK = 0,
+    SECOND_DEVICE_COUNT = 1, /* device count is not 1 */
+    SECOND_VARIANT = 2,      /* variant is not 1, 2 or 3 */
+    SECOND_KIND = 3,         /* kind is not 01 to 07 */
+    SECOND_OPERAND = 4,      /* an operand breaks the table */
+    SECOND_EXTRA = 5,        /* a byte after the last counted record */
+    SECOND_UNFINISHED = 6,   /* asked to finish before the counted end */
+    SECOND_ROOM = 7,         /* too little room */
+    SECOND_STATE = 8         /* the state handed in is out of its ranges */
+};
+
+/* Kinds of event, "The capture". */
+enum {
+    SECOND_WRITE = 1,
+    SECOND_READ = 2,
+    SECOND_SEND = 3,
+    SECOND_RECEIVE = 4,
+    SECOND_CONVERSION = 5,
+    SECOND_CONVERSION_OPEN = 6,
+    SECOND_POWER_ON = 7
+};
+
+enum {
+    SECOND_HEADER_BYTES = 6,
+    SECOND_RECORD_BYTES = 4,
+    SECOND_ANSWER_BYTES = 2,
+    SECOND_SETTINGS = 14
+};
+
+typedef struct second_device {
+    uint8_t variant;
+    uint8_t pointer;
+    bool pending;        /* a one-shot was asked for in standby */
+    uint8_t status;      /* register 02 */
+    uint8_t local;       /* register 00, raw byte */
+    int16_t remote;      /* eighths of a degree */
+    uint8_t live;        /* bits true at the last taken conversion */
+    uint8_t faults;      /* fault count, 0 to 3 */
+    bool local_latch;
+    bool remote_latch;
+    uint8_t settings[SECOND_SETTINGS]; /* by rising write address:
+        09 0A 0B 0C 0D 0E 11 12 13 14 19 20 21 BF */
+} second_device;
+
+typedef struct second_reader {
+    uint8_t header;      /* header bytes taken */
+    uint32_t count;      /* record count, partial while header is 2 to 5 */
+    uint32_t done;       /* records done */
+    uint8_t carried;     /* record bytes carried */
+    uint8_t carry[3];    /* those bytes, unused places 0 */
+    uint8_t held;        /* lasting code held, or 0 */
+    second_device device;
+} second_reader;
+
+/* An event has only the operands its kind names; the others are ignored.
+ *   kind               a        b            c
+ *   1 write            address  register     value
+ *   2 read             address  register     -
+ *   3 send             address  register     -
+ *   4 receive          address  -            -
+ *   5 conversion       local    remote high  remote low
+ *   6 open conversion  local    -            -
+ *   7 power-on         -        -            -            */
+typedef struct second_event {
+    uint8_t kind;
+    uint8_t a;
+    uint8_t b;
+    uint8_t c;
+} second_event;
+
+typedef struct second_step_result {
+    uint8_t code;        /* 8, 4 or 0 */
+    uint8_t first;       /* pins, acknowledged, taken */
+    uint8_t second;      /* the byte read, or 0 */
+} second_step_result;
+
+typedef struct second_feed_result {
+    uint8_t code;
+    size_t consumed;
+    size_t written;
+} second_feed_result;
+
+/* True if the device is within its ranges and its variant is 1 to 3. */
+bool second_device_in_range(const second_device *device);
+
+/* True if the reader state is within the ranges of "Codes of the reader". */
+bool second_reader_in_range(const second_reader *reader);
+
+/* The device as after power-on; its variant is the one given, whatever it is. */
+void second_power_on(second_device *device, uint8_t variant);
+
+/* Step the device where it stands: 8, then 4 (nothing changed, answers 0), or 0. */
+second_step_result second_step(second_device *device, second_event event);
+
+/* Four bytes to an event: 3, then 4 (the event all 0), or 0. */
+uint8_t second_decode(const uint8_t record[SECOND_RECORD_BYTES], second_event *event);
+
+/* An event to the front of a buffer: 4, then 7 (nothing written), or 0. */
+uint8_t second_write_event(second_event event, uint8_t *out, size_t room);
+
+/* A header to the front of a buffer: 2, then 7 (nothing written), or 0. */
+uint8_t second_write_header(uint8_t variant, uint32_t count, uint8_t *out, size_t room);
+
+/* The fresh reader state, all zeros. */
+void second_fresh(second_reader *reader);
+
+/* Feed a part of a capture; the reader becomes the state after it.
+ * Input, answers and reader are three separate pieces of memory. */
+second_feed_result second_feed(second_reader *reader,
+                               const uint8_t *input, size_t length,
+                               uint8_t *answers, size_t room);
+
+/* Ask to finish: 8, the held code, 6 or 0. */
+uint8_t second_finish(const second_reader *reader);
+
+/* A whole capture: sixteen times the answer bytes written, plus the code. */
+uint64_t second_run(const uint8_t *capture, size_t length,
+                    uint8_t *answers, size_t room);
+
+/* Listing lines, each with its line feed and no closing zero.  They give the
+ * length written, or 0 with nothing written if the line does not fit. */
+enum { SECOND_LINE_MOST = 24 }; /* enough room for any line */
+size_t second_listing_record(char *out, size_t room, uint32_t number,
+                             uint8_t first, uint8_t second);
+size_t second_listing_end(char *out, size_t room, uint32_t done, uint8_t code);
+
+#endif

@@ -1,0 +1,297 @@
+/* Hand-made scripts from the rulings of document 01, and the cut test.
+ *   gcc -std=c11 -Wall -Wextra -Werror -pedantic -g -fsanitize=address,undefined \
+ *       second.c selftest.c -o selftest && ./selftest */
+#include "second.h"
+
+#include <stdio.h>
+#include <string.h>
+
+static int wrong;
+
+static void check(bool good, const char *name, int line)
+{
+    if (!good) {
+        printf("wrong: %s, line %d\n", name, line);
+        wrong++;
+    }
+}
+#define CHECK(good) check((good), #good, __LINE__)
+
+/* A script: records and their answers, from power-on. */
+typedef struct {
+    uint8_t record[4];
+    uint8_t first, second;
+} script_line;
+
+static void run_script(const char *name, uint8_t variant, const script_line *line, size_t lines)
+{
+    second_device device;
+    second_power_on(&device, variant);
+    for (size_t i = 0; i < lines; i++) {
+        second_event event;
+        check(second_decode(line[i].record, &event) == 0, name, (int)i + 1);
+        second_step_result got = second_step(&device, event);
+        if (got.code != 0 || got.first != line[i].first || got.second != line[i].second) {
+            printf("wrong: %s, record %zu: %u %02X %02X, not 0 %02X %02X\n", name, i + 1,
+                   got.code, got.first, got.second, line[i].first, line[i].second);
+            wrong++;
+        }
+    }
+}
+#define SCRIPT(name, variant, ...)                                          \
+    do {                                                                    \
+        static const script_line lines_[] = { __VA_ARGS__ };                \
+        run_script(name, variant, lines_, sizeof lines_ / sizeof *lines_);  \
+    } while (0)
+
+#define WR(r, v, f) { { 1, 0x4C, r, v }, f, 0 }
+#define RD(r, f, s) { { 2, 0x4C, r, 0 }, f, s }
+#define SB(r, f) { { 3, 0x4C, r, 0 }, f, 0 }
+#define RB(f, s) { { 4, 0x4C, 0, 0 }, f, s }
+#define ARA(f, s) { { 4, 0x0C, 0, 0 }, f, s }
+#define CV(l, h, lo, f) { { 5, l, h, lo }, f, 0 }
+#define CO(l, f) { { 6, l, 0, 0 }, f, 0 }
+#define PO { { 7, 0, 0, 0 }, 0, 0 }
+
+static void scripts(void)
+{
+    SCRIPT("listing", 1, WR(0x19, 0x55, 4), WR(0x0D, 0x7F, 4), CV(0x19, 0x55, 0x20, 0x0B),
+           RD(2, 6, 2), WR(0x21, 5, 6), CV(0x19, 0x50, 0, 0x0A), CV(0x19, 0x4F, 0xE0, 8),
+           RD(3, 4, 0x80), WR(0x30, 0, 0));
+    SCRIPT("power-on bytes 1", 1, RD(0, 4, 0), RD(1, 4, 0), RD(2, 4, 0), RD(3, 4, 0),
+           RD(4, 4, 8), RD(5, 4, 70), RD(6, 4, 0), RD(7, 4, 70), RD(8, 4, 0), RD(0x10, 4, 0),
+           RD(0x11, 4, 0), RD(0x12, 4, 0), RD(0x13, 4, 0), RD(0x14, 4, 0), RD(0x19, 4, 110),
+           RD(0x20, 4, 85), RD(0x21, 4, 10), RD(0xBF, 4, 0), RD(0xFE, 4, 1), RD(0xFF, 4, 0x31),
+           RD(9, 0, 0), RD(0x0F, 0, 0), RD(0x15, 0, 0), RD(0xB0, 0, 0));
+    SCRIPT("power-on bytes 2", 2, { { 2, 0x4D, 0x20, 0 }, 4, 85 },
+           { { 2, 0x4D, 0xFF, 0 }, 4, 0x34 }, RD(0xFF, 0, 0));
+    SCRIPT("power-on bytes 3", 3, { { 2, 0x4D, 0x20, 0 }, 4, 105 },
+           { { 2, 0x4D, 0xFF, 0 }, 4, 0x35 }, { { 1, 0x4D, 0x20, 3 }, 4, 0 },
+           PO, { { 2, 0x4D, 0x20, 0 }, 4, 105 });
+    SCRIPT("kept bits", 1, WR(9, 0xFF, 4), RD(3, 4, 0xD5), WR(0x12, 0xFF, 4), RD(0x12, 4, 0xE0),
+           WR(0x13, 0xFF, 4), RD(0x13, 4, 0xE0), WR(0x14, 0xFF, 4), RD(0x14, 4, 0xE0),
+           WR(0x21, 0xFF, 4), RD(0x21, 4, 0x1F), WR(0xBF, 0xFF, 4), RD(0xBF, 4, 7),
+           WR(0x0A, 0xFF, 4), RD(4, 4, 0xFF), WR(0x0B, 0xFE, 4), RD(5, 4, 0xFE),
+           WR(0x0C, 0xFD, 4), RD(6, 4, 0xFD), WR(0x0D, 0xFC, 4), RD(7, 4, 0xFC),
+           WR(0x0E, 0xFB, 4), RD(8, 4, 0xFB), WR(0x11, 0xFA, 4), RD(0x11, 4, 0xFA),
+           WR(0x19, 0xF9, 4), RD(0x19, 4, 0xF9), WR(0x20, 0xF8, 4), RD(0x20, 4, 0xF8));
+    /* P1, P3: -1024 is below 0; -1 eighth likewise; a low limit of -1/8 passes -1/8 */
+    SCRIPT("P1", 1, CV(0, 0x80, 0, 9), RD(1, 5, 0x80), RD(0x10, 5, 0), RD(2, 4, 8),
+           WR(9, 0, 4), CV(0, 0xFF, 0xE0, 9), RD(1, 5, 0xFF), RD(0x10, 5, 0xE0), RD(2, 4, 8),
+           WR(9, 0, 4), WR(0x0E, 0xFF, 4), WR(0x14, 0xE0, 4), CV(0, 0xFF, 0xE0, 8),
+           CV(0, 0xFF, 0xC0, 9));
+    SCRIPT("P2", 1, WR(0x11, 1, 4), CV(0, 0x7F, 0x80, 0x0B), RD(1, 7, 0x7F), RD(0x10, 7, 0xE0),
+           WR(0x11, 0xFF, 7), CV(0, 0x80, 0, 9), RD(1, 5, 0x80), RD(0x10, 5, 0),
+           WR(0x11, 5, 5), CO(0, 0x0B), RD(1, 7, 0x7F), RD(0x10, 7, 0), RD(2, 6, 0x1E));
+    SCRIPT("P3 remote", 1, WR(0x19, 85, 4), WR(0x0D, 127, 4), CV(0, 85, 0, 8),
+           RD(2, 4, 0), CV(0, 85, 0x20, 0x0B), RD(2, 6, 2), WR(0x0D, 10, 6), WR(0x13, 0x20, 6),
+           CV(0, 10, 0x20, 8), RD(2, 4, 0), CV(0, 10, 0x40, 8), RD(2, 4, 0x10));
+    SCRIPT("P3 local", 1, CV(70, 0, 0, 8), RD(2, 4, 0), CV(71, 0, 0, 9), RD(2, 4, 0x40),
+           WR(9, 0, 4), CV(0xFF, 0, 0, 9), RD(2, 4, 0x20), WR(0x0B, 127, 4), CV(85, 0, 0, 8),
+           RD(2, 4, 0), CV(86, 0, 0, 0x0A), RD(2, 6, 1));
+    SCRIPT("P4", 1, WR(0x19, 85, 4), WR(0x0D, 127, 4), WR(0x0E, 0x80, 4), WR(9, 1, 4),
+           CV(0, 86, 0, 8), CV(0, 86, 0, 8), CV(0, 84, 0, 8), CV(0, 86, 0, 8), CV(0, 86, 0, 8),
+           CV(0, 86, 0, 0x0B));
+    SCRIPT("P4 other limits, D0 late, OPEN at once", 1, CV(0, 0xFF, 0, 9), CV(0, 71, 0, 9),
+           RD(2, 4, 0x18), WR(9, 1, 4), CV(0, 0xFF, 0, 9), RD(2, 4, 8), PO, WR(9, 1, 4),
+           CO(0, 8), RD(2, 4, 4), RD(3, 4, 1), CO(0, 8), CO(0, 0x0B), RD(2, 6, 0x16));
+    SCRIPT("P5, P6, P7 interrupt", 1, CV(71, 0, 0, 9), CV(0, 0, 0, 9), CV(0xFF, 0, 0, 9),
+           RD(2, 4, 0x60), RD(3, 4, 0x80), RD(2, 4, 0), WR(9, 0, 4), CV(0, 0, 0, 8),
+           CO(0, 0x0B), RD(2, 6, 0x16), PO, WR(0x19, 127, 4), WR(0x0D, 127, 4), CO(0, 8),
+           RD(2, 4, 4), RD(3, 4, 0));
+    SCRIPT("P6, P7 comparator", 1, WR(0xBF, 1, 4), CV(71, 0, 0, 9), RD(2, 5, 0x40), RD(3, 5, 0),
+           RD(2, 5, 0), ARA(1, 0), CV(0, 0, 0, 8), CV(71, 0, 0, 9), CV(0, 0, 0, 8),
+           WR(0xBF, 0, 5), WR(9, 0x80, 4), WR(9, 0, 5));
+    SCRIPT("P6 by receive", 1, CV(71, 0, 0, 9), SB(2, 5), RB(4, 0x40), RB(4, 0), RD(3, 4, 0x80));
+    SCRIPT("P8 local below -128", 1, WR(0x20, 0x80, 4), WR(0x21, 1, 4), WR(0x0B, 127, 4),
+           WR(0x0C, 0x80, 4), CV(0x81, 0, 0, 0x0B), CV(0x80, 0, 0, 0x0B), CV(0x80, 0, 0, 0x0B),
+           PO);
+    SCRIPT("P8 masks and moves", 1, WR(0x0B, 127, 4), WR(0x20, 50, 4), CV(51, 0, 0, 0x0B),
+           WR(9, 4, 5), WR(9, 0x10, 7), WR(9, 0, 7), WR(0x20, 127, 7), RD(2, 6, 1),
+           WR(0x20, 50, 6), CV(40, 0, 0, 0x0A), CV(39, 0, 0, 8), WR(0x0D, 127, 4),
+           CV(0, 111, 0, 0x0A), WR(9, 0x10, 5), WR(9, 4, 7), WR(9, 0x14, 5));
+    SCRIPT("P9", 1, ARA(0, 0), CV(71, 0, 0, 9), { { 2, 0x0C, 0, 0 }, 1, 0 }, ARA(4, 0x99),
+           RD(3, 4, 0x80), ARA(0, 0), WR(9, 0, 5), RD(2, 4, 0x40));
+    SCRIPT("P9 at 4D", 3, CV(71, 0, 0, 9), ARA(4, 0x9B));
+    SCRIPT("P10", 1, CV(42, 1, 0x20, 8), RB(4, 42), SB(9, 4), RB(0, 0), SB(0x15, 0), SB(1, 4),
+           RB(4, 1), WR(0x0F, 0, 4), RB(0, 0), RD(0x10, 4, 0x20), RB(4, 0x20), RD(0x0F, 0, 0),
+           RB(4, 0x20), WR(0x30, 0, 0), WR(3, 0, 0), RB(4, 0x20), WR(0x19, 9, 4), RB(4, 9),
+           { { 3, 0x4D, 0, 0 }, 0, 0 }, { { 4, 0x4D, 0, 0 }, 0, 0 }, RB(4, 9), PO, RB(4, 0));
+    SCRIPT("P11", 1, WR(0x0F, 0, 4), WR(9, 0x40, 4), CV(9, 1, 0, 0), RD(0, 4, 0),
+           WR(0x0F, 7, 4), WR(9, 0x41, 4), CV(9, 1, 0, 8), CV(10, 2, 0, 0), RD(0, 4, 9),
+           WR(0x0F, 0, 4), WR(9, 0, 4), WR(9, 0x40, 4), CV(11, 2, 0, 0), WR(9, 0, 4),
+           CV(12, 2, 0, 8), RD(0, 4, 12));
+    SCRIPT("P12", 1, CV(0, 1, 0x20, 8), RD(1, 4, 1), CV(0, 2, 0x40, 8), RD(0x10, 4, 0x40),
+           RD(1, 4, 2), WR(0xBF, 6, 4), WR(0x0A, 0, 4), CV(0, 3, 0x60, 8), RD(1, 4, 3));
+}
+
+static void refusals(void)
+{
+    uint8_t out[8];
+    second_event event;
+    static const uint8_t bad[][4] = {
+        { 1, 0x80, 0, 0 }, { 2, 0x80, 0, 0 }, { 2, 0, 0, 1 }, { 3, 0x80, 0, 0 }, { 3, 0, 0, 1 },
+        { 4, 0x80, 0, 0 }, { 4, 0, 1, 0 }, { 4, 0, 0, 1 }, { 5, 0, 0, 1 }, { 5, 0, 0, 16 },
+        { 6, 0, 1, 0 }, { 6, 0, 0, 1 }, { 7, 1, 0, 0 }, { 7, 0, 1, 0 }, { 7, 0, 0, 1 }
+    };
+    for (size_t i = 0; i < sizeof bad / sizeof *bad; i++)
+        CHECK(second_decode(bad[i], &event) == 4 && event.kind == 0);
+    CHECK(second_decode((const uint8_t[]){ 0, 0xFF, 1, 1 }, &event) == 3);
+    CHECK(second_decode((const uint8_t[]){ 8, 0, 0, 0 }, &event) == 3);
+
+    memset(out, 0xA5, sizeof out);
+    CHECK(second_write_event((second_event){ 1, 0x80, 0, 0 }, out, 0) == 4);
+    CHECK(second_write_event((second_event){ 4, 0x7F, 9, 9 }, out, 3) == 7 && out[0] == 0xA5);
+    CHECK(second_write_event((second_event){ 4, 0x7F, 9, 9 }, out, 8) == 0);
+    CHECK(memcmp(out, "\x04\x7F\x00\x00\xA5\xA5\xA5\xA5", 8) == 0);
+    memset(out, 0xA5, sizeof out);
+    CHECK(second_write_header(0, 1, out, 8) == 2 && second_write_header(4, 1, out, 0) == 2);
+    CHECK(second_write_header(1, 1, out, 5) == 7 && out[0] == 0xA5);
+    CHECK(second_write_header(3, 0x01020304, out, 8) == 0);
+    CHECK(memcmp(out, "\x01\x03\x01\x02\x03\x04\xA5\xA5", 8) == 0);
+
+    second_device device;
+    memset(&device, 0, sizeof device);
+    CHECK(second_step(&device, (second_event){ 1, 0x80, 0, 0 }).code == 8);
+    second_power_on(&device, 1);
+    CHECK(second_step(&device, (second_event){ 1, 0x80, 0, 0 }).code == 4);
+    device.pending = true;
+    CHECK(second_step(&device, (second_event){ 7, 0, 0, 0 }).code == 8);
+    device.settings[0] = 0x40;
+    CHECK(second_step(&device, (second_event){ 7, 0, 0, 0 }).code == 0);
+
+    second_reader reader;
+    second_fresh(&reader);
+    CHECK(second_finish(&reader) == 6);
+    second_feed_result fed = second_feed(&reader, (const uint8_t *)"\x01\x01\0\0\0\0\x01", 7, out, 8);
+    CHECK(fed.code == 5 && fed.consumed == 6 && fed.written == 0 && reader.held == 5);
+    fed = second_feed(&reader, NULL, 0, NULL, 0);
+    CHECK(fed.code == 5 && fed.consumed == 0 && second_finish(&reader) == 5);
+    CHECK(second_run((const uint8_t *)"\x01\x01\0\0\0\0", 6, NULL, 0) == 0);
+    CHECK(second_run((const uint8_t *)"\x01\x01\0\0\0\x01\x07\0\0\0", 10, NULL, 0) == 7);
+    CHECK(second_run((const uint8_t *)"\x01\x01\0\0\0\x01\x07\0\0\x01", 10, NULL, 0) == 4);
+    CHECK(second_run((const uint8_t *)"\x01\x01\0\0\0\x01\x07\0\0\0", 10, out, 3) == 32);
+    CHECK(second_run((const uint8_t *)"\x01\x01\0\0\0\x02\x07\0\0\0", 10, out, 3) == 38);
+}
+
+/* Random captures, right and wrong: in one piece, and in parts with little
+ * room and retries.  Codes, answers, consumption and end state must agree. */
+static uint32_t seed = 1;
+
+static uint32_t next(uint32_t below)
+{
+    seed = seed * 1664525u + 1013904223u;
+    return (seed >> 8) % below;
+}
+
+enum { RECORDS = 12, MOST = 6 + 4 * RECORDS + 2 };
+
+static size_t make_capture(uint8_t *capture)
+{
+    static const uint8_t registers[] = { 0, 1, 2, 2, 2, 3, 9, 9, 9, 0x0B, 0x0C, 0x0D, 0x0E, 0x0F,
+        0x0F, 0x10, 0x11, 0x12, 0x13, 0x14, 0x19, 0x20, 0x21, 0xBF, 0xBF, 0xFE, 0xFF, 0x30 };
+    size_t n = next(RECORDS + 1);
+    second_write_header((uint8_t)(1 + next(3)), (uint32_t)n, capture, MOST);
+    for (size_t i = 0; i < n; i++) {
+        second_event event = { (uint8_t)(1 + next(7)), (uint8_t)(0x4C + next(2)), 0, (uint8_t)next(256) };
+        event.b = registers[next(sizeof registers)];
+        if (event.kind == SECOND_RECEIVE && next(2) == 0)
+            event.a = 0x0C;
+        if (event.kind >= SECOND_CONVERSION) {
+            event.a = (uint8_t)next(256);
+            event.b = (uint8_t)next(256);
+            event.c &= 0xE0;
+        }
+        CHECK(second_write_event(event, capture + 6 + 4 * i, 4) == 0);
+    }
+    size_t length = 6 + 4 * n;
+    if (next(3) == 0) /* too short, too long, or a bad byte somewhere */
+        length = next((uint32_t)length + 1);
+    else if (next(3) == 0)
+        capture[length++] = 7;
+    else if (next(2) == 0)
+        capture[next((uint32_t)length)] = (uint8_t)next(256);
+    return length;
+}
+
+static void cuts(void)
+{
+    for (int round = 0; round < 3000; round++) {
+        uint8_t capture[MOST];
+        uint8_t whole[2 * RECORDS], joined[2 * RECORDS];
+        second_reader one, parts;
+        size_t length = make_capture(capture);
+        second_fresh(&one);
+        second_feed_result all = second_feed(&one, capture, length, whole, sizeof whole);
+        CHECK(second_run(capture, length, joined, sizeof joined) ==
+              16u * all.written + (all.code != 0 ? all.code : second_finish(&one)));
+        for (size_t piece = 1; piece <= length + 1; piece++) {
+            size_t at = 0, written = 0;
+            uint8_t code = 0;
+            second_fresh(&parts);
+            while (at < length && (code == 0 || code == 7)) {
+                size_t room = next(6);
+                size_t left = sizeof joined - written;
+                if (room > left)
+                    room = left;
+                second_feed_result fed = second_feed(&parts, capture + at,
+                    piece < length - at ? piece : length - at, joined + written, room);
+                at += fed.consumed;
+                written += fed.written;
+                code = fed.code;
+            }
+            CHECK(code == all.code && at == all.consumed && written == all.written);
+            CHECK(memcmp(joined, whole, written) == 0);
+            CHECK(memcmp(&parts, &one, sizeof one) == 0); /* both began as all zeros */
+            CHECK(second_finish(&parts) == second_finish(&one));
+        }
+    }
+}
+
+/* Any bytes as a state, any bytes as input: an answer, and 8 changes nothing. */
+static void anything(void)
+{
+    for (int round = 0; round < 200000; round++) {
+        second_reader reader, before;
+        uint8_t input[32], answers[16];
+        memset(&reader, 0, sizeof reader);
+        reader.header = (uint8_t)next(next(2) ? 7 : 256);
+        reader.count = next(2) ? next(5) : next(1u << 24) << 8;
+        reader.done = next(3);
+        reader.carried = (uint8_t)next(next(4) ? 4 : 256);
+        for (size_t i = 0; i < 3; i++)
+            reader.carry[i] = i < reader.carried ? (uint8_t)next(9) : 0;
+        reader.held = (uint8_t)(next(2) ? 0 : next(8));
+        second_power_on(&reader.device, (uint8_t)next(5));
+        if (next(2)) {
+            reader.device.pointer = (uint8_t)next(256);
+            reader.device.status = (uint8_t)next(256);
+            reader.device.remote = (int16_t)((int)next(65536) - 32768);
+            reader.device.faults = (uint8_t)next(8);
+            reader.device.pending = next(2) != 0;
+            reader.device.settings[next(14)] = (uint8_t)next(256);
+        }
+        for (size_t i = 0; i < sizeof input; i++)
+            input[i] = (uint8_t)next(next(2) ? 8 : 256);
+        before = reader;
+        second_feed_result fed = second_feed(&reader, input, next(33), answers, next(17));
+        CHECK(fed.code <= 8 && fed.code != 6 && fed.written <= 16 && fed.consumed <= 32);
+        CHECK(fed.code != 8 || (fed.consumed == 0 && memcmp(&reader, &before, sizeof reader) == 0));
+        CHECK(fed.code == 8 || second_reader_in_range(&reader));
+        CHECK((fed.code == 8) == (second_finish(&reader) == 8));
+        second_step_result step = second_step(&before.device,
+            (second_event){ (uint8_t)next(9), input[0], input[1], input[2] });
+        CHECK(step.code == 0 || step.code == 4 || step.code == 8);
+        CHECK(step.code == 8 || second_device_in_range(&before.device));
+    }
+}
+
+int main(void)
+{
+    scripts();
+    refusals();
+    cuts();
+    anything();
+    puts(wrong == 0 ? "all right" : "WRONG");
+    return wrong != 0;
+}

@@ -1,0 +1,24 @@
+#!/usr/bin/env bash
+# The second program: its own tests, under the sanitizers too, and its listings of every sample and of the large capture held
+# to the model's. Needs what tests/bench.sh leaves in build/. Exits non-zero at the first failure.
+set -euo pipefail
+cd "$(dirname "$0")/.."
+
+flags=(-std=c11 -O2 -Wall -Wextra -Werror -pedantic)
+
+stop() {
+    printf 'second: %s\n' "$*" >&2
+    exit 1
+}
+
+cc "${flags[@]}" -fsanitize=address,undefined -fno-sanitize-recover=all -o build/second-selftest second/second.c second/selftest.c
+ASAN_OPTIONS=detect_leaks=0 build/second-selftest || stop "second/selftest.c failed, see above"
+cc "${flags[@]}" -o build/second-listing second/second.c second/listing.c
+cc "${flags[@]}" -o build/second-replay second/second.c second/replay.c
+for hex in samples/*.hex; do
+    python3 tests/hex.py <"$hex" | build/second-listing >build/listed
+    cmp "${hex%.hex}.listing" build/listed || stop "$hex has another listing in the second program"
+done
+build/second-listing <build/capture >build/listed
+cmp build/expected build/listed || stop "the large capture has another listing in the second program"
+printf 'second: samples and the large capture agree\n'
