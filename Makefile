@@ -1,7 +1,7 @@
 PREFIX ?= /usr/local
 CAPTURE ?= samples/01-document.hex
 
-.PHONY: all build list lib test install clean
+.PHONY: all build list lib test speed install clean
 
 all: list
 
@@ -21,6 +21,10 @@ lib: build
 # The gate.
 test:
 	.ci/run
+
+# Nanoseconds a record, against the second program.
+speed:
+	@scripts/speed.sh
 
 install: build
 	install -d "$(DESTDIR)$(PREFIX)/include" "$(DESTDIR)$(PREFIX)/lib" "$(DESTDIR)$(PREFIX)/bin"

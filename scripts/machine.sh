@@ -10,13 +10,10 @@ emulator=("$toolchain/bin/qemu-x86_64" "$toolchain/lib/ld-linux-x86-64.so.2" --l
 library=build/lib/liblm89.a
 flags=(-std=c11 -O2 -Wall -Wextra -Werror -pedantic -Iinclude)
 
-# Object OUT of SOURCE for x86-64: by the machine's clang, else by the kit's with the headers of the machine's cc.
-compile_across() {
-    local clang=(clang)
-    command -v clang >/dev/null || clang=("$toolchain/bin/clang" -isystem "$(cc -print-file-name=include)")
-    "${clang[@]}" --target=x86_64-unknown-linux-gnu -fPIE "${flags[@]}" \
-        -isystem /usr/include -isystem "/usr/include/$machine-linux-gnu" -c "$2" -o "$1"
-}
+# For x86-64 on any machine: the machine's clang, else the kit's with the headers of the machine's cc.
+across=(clang)
+command -v clang >/dev/null || across=("$toolchain/bin/clang" -isystem "$(cc -print-file-name=include)")
+across+=(--target=x86_64-unknown-linux-gnu -isystem /usr/include -isystem "/usr/include/$machine-linux-gnu")
 
 # Program OUT of OUT.o, by the kit; what the linker says is shown only where it fails.
 link_across() {
@@ -32,7 +29,7 @@ compile_link() {
     if [ "$machine" = x86_64 ]; then
         cc "${flags[@]}" -o "$1" "$2" "$library"
     else
-        compile_across "$1.o" "$2" && link_across "$1"
+        "${across[@]}" -fPIE "${flags[@]}" -c "$2" -o "$1.o" && link_across "$1"
     fi
 }
 

@@ -45,6 +45,8 @@ blocks() {
 
 scripts/build.sh
 passes example examples/bench.c
+"${across[@]}" -x c++ -std=c++11 -fsyntax-only -Wall -Wextra -Werror -pedantic -Iinclude examples/bench.c || stop "include/lm89.h is not C++, see above"
+printf 'c++: header ok\n'
 passes layout tests/c/layout.c
 passes run tests/c/run.c
 program list tests/c/list.c
