@@ -1,12 +1,10 @@
 -- The bench's device, stepped by an event that is given as its record's four bytes.
 -- Assumes nothing.
 use Prim.Native.Nat.{ℕ}
-use mathlib.Core.Bool.{false, _&&_, cond}
-use mathlib.Core.List.{[], _∷_}
-use lib.IntN.{pos}
+use mathlib.Core.Bool.{_&&_, cond}
 use Rattle.device.specs.declared.Device.{Device}
 use Rattle.device.specs.declared.Stepped.{Stepped}
-use Rattle.device.specs.Bus.{poweredOf}
+use Rattle.device.specs.Bus.{poweredOf, zeroDevice}
 use Rattle.device.specs.Ranges.{variantOf, rangedOf}
 use Rattle.device.specs.Step.{stepOf}
 use Rattle.record.specs.declared.Record.{Record}
@@ -32,16 +30,5 @@ unfoldable pub stepBytesOf : Device → ℕ → ℕ → ℕ → ℕ → Taken
 stepBytesOf d kind a b c = cond (variantOf (d .variant) && rangedOf d) (onRecordOf d (decodeOf kind a b c)) (refusalOf d 8)
 
 -- a device as after power-on; all zeros, whose first step gives 8, for a variant that is none of 1 to 3
-abbrev pub zeros : Device
-zeros =
-    record {
-      variant = 0;
-      pointer = 0;
-      pending = false;
-      status = 0;
-      sensed = record { local = 0; remote = pos 0; live = 0; faults = 0; llatch = false; rlatch = false };
-      settings = 0 ∷ 0 ∷ 0 ∷ 0 ∷ 0 ∷ 0 ∷ 0 ∷ 0 ∷ 0 ∷ 0 ∷ 0 ∷ 0 ∷ 0 ∷ 0 ∷ [];
-    }
-
 unfoldable pub powerOnOf : ℕ → Device
-powerOnOf variant = cond (variantOf variant) (poweredOf variant) zeros
+powerOnOf variant = cond (variantOf variant) (poweredOf variant) zeroDevice

@@ -1,7 +1,6 @@
 // The bench's calls on one device where it stands, for C.
 ghost use mathlib.Core.Path.{_≡_};
 ghost use Rattle.bench_step.specs.BenchStep.{refusalOf, stepBytesOf, powerOnOf};
-use conversion::Sensed;
 use device::Device;
 use record::Record;
 
@@ -73,20 +72,5 @@ pub extern "C" fn lm89_power_on(variant: u8) -> Device
     if device::ranges::variant(variant) {
         return device::bus::powered(variant);
     }
-    let sensed = Sensed {
-        local: 0,
-        remote: 0,
-        live: 0,
-        faults: 0,
-        llatch: false,
-        rlatch: false,
-    };
-    Device {
-        sensed,
-        variant: 0,
-        pointer: 0,
-        pending: false,
-        status: 0,
-        settings: [0; 14],
-    }
+    device::bus::powered(0)
 }

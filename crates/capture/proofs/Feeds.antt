@@ -8,12 +8,11 @@ use native.Mathlib.Omega.{arith}
 use native.Mathlib.Numerals.{add-one}
 use native.Mathlib.Nat.{le-refl, add-zero, sub-zero, zero-add, sub-add-eq}
 use lib.ListN.{length, getD, set, take, drop, take-append-drop, length-append, length-drop, drop-of-length-le}
-use lib.Seq.{drop-cons, length-take-le, drop-drop, drop-at, take-append-add, take-all}
+use lib.Seq.{drop-cons, length-take-le, drop-drop, drop-at, take-append-add}
 use mathlib.Core.Logic.{_⊎_, inl, inr, ⊎-elim}
 use native.Mathlib.Decide.{decLt}
 use Rattle.laws.proofs.Choices.{by-test}
 use Rattle.capture.proofs.Three.{begins, three-ahead, three-ranges, stays, too-short, carries}
-use borrow.Rule.Slice.PartMut.{putMid}
 use borrow.Author.Tests.{ne-eqb, lt-leb}
 use Rattle.capture.specs.declared.Reader.{Reader}
 use Rattle.capture.specs.declared.Ahead.{Ahead}
@@ -118,13 +117,6 @@ module _ {s₀ : Reader} {input entry answers : List ℕ} {s : Reader} {at writt
           rest = rw e (simp (← drop-drop, drop-at, g .rest));
           same = rw (f, sub-add-eq) (simp p at (taken z (simp p (omega (arith, g .long)))));
         }
-
--- a list whose end from n on was lent, and came back with x and y at its front
-pub stored : (l last : List ℕ) (n x y : ℕ) → last ≡ x ∷ y ∷ drop 2 (take (length l - n) (drop n l)) → putMid n (length l - n) l last ≡ take n l ++ (x ∷ y ∷ drop 2 (drop n l))
-stored l last n x y e =
-    let a : take (length l - n) (drop n l) ≡ drop n l = take-all (length l - n) (drop n l) (simp length-drop (omega arith)) in
-    let b : drop (length l - n) (drop n l) ≡ [] = drop-of-length-le (drop n l) {i = length l - n} (simp length-drop (omega arith)) in
-    simp (e, a, b) (ap (λ (m : List ℕ). take n l ++ (x ∷ y ∷ m)) (append-nil (drop 2 (drop n l))))
 
 -- at a state in its ranges the call is the feed; at another it is 8 and changes nothing
 pub called : (s : Reader) (input entry : List ℕ) {r : Fed} {exit : List ℕ} → rangesOf s ≡ true → Meets (feedOf s input (length entry)) r entry exit → Meets (callOf s input (length entry)) r entry exit

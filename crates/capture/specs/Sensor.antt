@@ -1,13 +1,11 @@
 -- What the capture knows of the device: its type, its ranges, power-on and the effect of an event; and the header's length.
 -- Assumes nothing.
 use Prim.Native.Nat.{ℕ}
-use mathlib.Core.Bool.{Bool, false, _||_, _&&_}
-use mathlib.Core.List.{[], _∷_}
-use lib.IntN.{pos}
+use mathlib.Core.Bool.{Bool, _||_, _&&_}
 use lib.Dec.{ltb}
 use Rattle.device.specs.declared.Device.{Device}
 use Rattle.device.specs.declared.Event.{Event}
-use Rattle.device.specs.Bus.{poweredOf}
+use Rattle.device.specs.Bus.{poweredOf, zeroDevice}
 use Rattle.device.specs.Ranges.{variantOf, rangedOf}
 use Rattle.device.specs.Step.{effectOf, answerOf}
 
@@ -16,15 +14,7 @@ Sensor = Device
 
 -- all zeros
 abbrev pub zeroSensor : Sensor
-zeroSensor =
-    record {
-      variant = 0;
-      pointer = 0;
-      pending = false;
-      status = 0;
-      sensed = record { local = 0; remote = pos 0; live = 0; faults = 0; llatch = false; rlatch = false };
-      settings = 0 ∷ 0 ∷ 0 ∷ 0 ∷ 0 ∷ 0 ∷ 0 ∷ 0 ∷ 0 ∷ 0 ∷ 0 ∷ 0 ∷ 0 ∷ 0 ∷ [];
-    }
+zeroSensor = zeroDevice
 
 -- the device's ranges, and a variant of 1 to 3 once two header bytes are taken
 abbrev pub sensorRanges : ℕ → Sensor → Bool

@@ -4,7 +4,6 @@ ghost use mathlib.Core.List.{_∷_};
 ghost use Prim.Native.Nat.{_≤_};
 ghost use lib.ListN.{length, drop};
 ghost use Rattle.capture.specs.Reader.{freshOf, callOf, finishOf, reportOf, Meets};
-use conversion::Sensed;
 use device::Device;
 
 pub mod ranges;
@@ -47,22 +46,7 @@ pub struct Fed {
 pub fn fresh() -> Reader
     ensures { λ r. ⌜ r ≡ freshOf ⌝ }
 {
-    let sensed = Sensed {
-        local: 0,
-        remote: 0,
-        live: 0,
-        faults: 0,
-        llatch: false,
-        rlatch: false,
-    };
-    let device = Device {
-        variant: 0,
-        pointer: 0,
-        pending: false,
-        status: 0,
-        sensed,
-        settings: [0; 14],
-    };
+    let device = device::bus::powered(0);
     Reader {
         head: 0,
         count: 0,

@@ -1,11 +1,18 @@
--- `step-effect`: in range and with operands in the table a step is the effect with code 0.
+-- `powered-zero`: power-on of no variant leaves all zeros. `step-effect`: in range and with operands in the table a step is the effect with code 0.
 -- Assumes nothing.
-use mathlib.Core.Path.{_≡_}
+use mathlib.Core.Path.{_≡_, refl}
 use mathlib.Core.Bool.{Bool, true, false, _&&_, cond}
 use Rattle.device.specs.declared.Device.{Device}
 use Rattle.device.specs.declared.Event.{Event}
+use Rattle.temperature.specs.Temperature.{degreesOf, eighthsOf}
+use Rattle.registers.specs.Page.{powerOnOf, readOnlyOf}
+use Rattle.device.specs.Bus.{poweredOf, zeroDevice}
 use Rattle.device.specs.Ranges.{variantOf, rangedOf, operandsOf}
 use Rattle.device.specs.Step.{effectOf, refusedOf, steppedOf, stepOf}
+
+pub powered-zero : poweredOf 0 ≡ zeroDevice
+unfolding poweredOf powerOnOf readOnlyOf eighthsOf degreesOf
+powered-zero = refl
 
 pub step-effect : (d : Device) (e : Event) → variantOf (d .variant) ≡ true → rangedOf d ≡ true → operandsOf e ≡ true → stepOf d e ≡ steppedOf (effectOf d e)
 unfolding stepOf

@@ -3,8 +3,8 @@
 -- Assumes nothing.
 use Prim.Native.Nat.{ℕ, _+_, _*_}
 use mathlib.Core.Bool.{Bool, true, false, not, _||_, _&&_, cond}
-use mathlib.Core.List.{List}
-use lib.IntN.{ℤ}
+use mathlib.Core.List.{List, [], _∷_}
+use lib.IntN.{ℤ, pos}
 use lib.Dec.{eqb}
 use lib.Bits.{bitAnd, bitOr}
 use lib.ListN.{getD, set}
@@ -139,6 +139,18 @@ senseOf d local remote diodeOpen =
     cond (takesOf d) (record { device = convertedOf d local remote diodeOpen; acknowledged = false; taken = true; byte = 0 }) (silentOf d)
 
 -- ---- power-on
+
+-- all zeros: no variant is powered on
+abbrev pub zeroDevice : Device
+zeroDevice =
+    record {
+      variant = 0;
+      pointer = 0;
+      pending = false;
+      status = 0;
+      sensed = record { local = 0; remote = pos 0; live = 0; faults = 0; llatch = false; rlatch = false };
+      settings = 0 ∷ 0 ∷ 0 ∷ 0 ∷ 0 ∷ 0 ∷ 0 ∷ 0 ∷ 0 ∷ 0 ∷ 0 ∷ 0 ∷ 0 ∷ 0 ∷ [];
+    }
 
 -- the page's bytes, the pointer at 00 (P10), nothing pending, live, counted or latched
 unfoldable pub poweredOf : ℕ → Device

@@ -2,3 +2,4 @@ pub mod Choices
 pub mod OneAnswer
 pub mod Exactly
 pub mod Tables
+pub mod Buffers

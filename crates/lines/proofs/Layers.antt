@@ -3,14 +3,14 @@
 use Prim.Native.Nat.{ℕ, _+_, _-_, _≤_, _<_}
 use mathlib.Core.Path.{_≡_, refl, sym, ap, subst, _∙_}
 use mathlib.Core.Bool.{Bool, cond}
-use mathlib.Core.List.{List, [], _++_, append-nil, append-assoc}
+use mathlib.Core.List.{List, [], _++_, append-assoc}
 use native.Mathlib.Omega.{arith}
-use native.Mathlib.Nat.{le-refl}
 use lib.Dec.{ltb, leb}
-use lib.ListN.{length, take, drop, length-append, length-drop, drop-of-length-le}
+use lib.ListN.{length, take, drop, length-append, length-drop}
 use lib.Seq.{take-all, take-at, drop-at, drop-drop}
 use borrow.Rule.Slice.PartMut.{putMid}
 use borrow.Author.Tests.{le-leb, lt-leb, leb-true}
+use Rattle.laws.proofs.Buffers.{copied, laid}
 use Rattle.laws.proofs.Choices.{cond-ind}
 use Rattle.lines.specs.Lines.{zerosOf, tenDigits, decimalOf, fittingOf, Lined}
 
@@ -37,19 +37,6 @@ at-most-ten n e = let k = zeros-small n in omega arith
 
 -- ---- layers
 
--- the copy of all of `src` to the front
-pub first-layer : (src entry : List ℕ) {l : List ℕ} → l ≡ take (length src) src ++ drop (length src) entry → l ≡ src ++ drop (length src) entry
-first-layer src entry e = e ∙ ap (λ (x : List ℕ). x ++ drop (length src) entry) (take-all (length src) src (le-refl (length src)))
-
--- a part from n on was lent, and came back with `src` at its front
-laid : (l last src : List ℕ) (n : ℕ) → last ≡ take (length src) src ++ drop (length src) (take (length l - n) (drop n l))
-    → putMid n (length l - n) l last ≡ take n l ++ (src ++ drop (length src) (drop n l))
-laid l last src n e =
-    let a : take (length l - n) (drop n l) ≡ drop n l = take-all (length l - n) (drop n l) (simp length-drop (omega arith)) in
-    let b : drop (length l - n) (drop n l) ≡ [] = drop-of-length-le (drop n l) {i = length l - n} (simp length-drop (omega arith)) in
-    let c : take (length src) src ≡ src = take-all (length src) src (le-refl (length src)) in
-    simp (e, a, b, c) (ap (λ (m : List ℕ). take n l ++ m) (append-nil (src ++ drop (length src) (drop n l))))
-
 -- behind a layer of n bytes, the next one
 pub next-layer : (entry layer l last src : List ℕ) (n : ℕ) → length layer ≡ n → l ≡ layer ++ drop (length layer) entry
     → last ≡ take (length src) src ++ drop (length src) (take (length l - n) (drop n l))
@@ -57,7 +44,7 @@ pub next-layer : (entry layer l last src : List ℕ) (n : ℕ) → length layer 
 next-layer entry layer l last src n k e f =
     let t : take n l ≡ layer = ap (take n) e ∙ take-at layer (drop (length layer) entry) n k in
     let d : drop n l ≡ drop (length layer) entry = ap (drop n) e ∙ drop-at layer (drop (length layer) entry) n k in
-    laid l last src n f
+    laid l last src n (copied src (take (length l - n) (drop n l)) f)
     ∙ rw (t, d) (sym (append-assoc layer src (drop (length src) (drop (length layer) entry)))
     ∙ ap (λ (m : List ℕ). (layer ++ src) ++ m) (drop-drop (length src) (length layer) entry ∙ ap (λ (m : ℕ). drop m entry) (sym (length-append layer src))))
 
@@ -114,7 +101,7 @@ module _ (word tail entry : List ℕ) (n : ℕ) {z : ℕ} (zeros : z ≡ zerosOf
       let number : middle ≡ decimalOf n
       = rw (ten, zeros) (take-all (10 - zerosOf n) (decimalOf n) (simp length-drop (omega arith))) in
       let long : length (word ++ middle) ≡ b = length-append word middle ∙ ap (λ (k : ℕ). length word + k) (ap length number ∙ number-length) in
-      let second : m ≡ (word ++ middle) ++ drop (length (word ++ middle)) entry = next-layer entry word l last middle (length word) refl (first-layer word entry e) f in
+      let second : m ≡ (word ++ middle) ++ drop (length (word ++ middle)) entry = next-layer entry word l last middle (length word) refl (copied word entry e) f in
       let third = next-layer entry (word ++ middle) m last′ tail b long second g in
       let same : (word ++ middle) ++ tail ≡ line = append-assoc word middle tail ∙ ap (λ (x : List ℕ). word ++ (x ++ tail)) number in
       let k = line-length in

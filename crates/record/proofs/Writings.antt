@@ -1,13 +1,11 @@
 -- The three ways out of a writer, and that its promise has one answer: `one-writing`.
 -- Assumes nothing.
-use mathlib.Core.Path.{_≡_, refl, sym, ap, _∙_}
+use mathlib.Core.Path.{_≡_, refl, sym, _∙_}
 use mathlib.Core.Bool.{Bool, true, false, cond}
 use mathlib.Core.List.{List, _++_}
 use Prim.Native.Nat.{ℕ, _≤_, _<_}
 use lib.Dec.{leb}
-use native.Mathlib.Nat.{le-refl}
-use lib.ListN.{length, take, drop}
-use lib.Seq.{take-all}
+use lib.ListN.{length, drop}
 use borrow.Author.Tests.{le-leb, lt-leb}
 use Rattle.device.specs.declared.Event.{Event}
 use Rattle.device.specs.Ranges.{variantOf, operandsOf}
@@ -27,10 +25,6 @@ module _ {good : Bool} (n room : ℕ) (bytes entry : List ℕ) (bad : ℕ) where
 
   pub written : {exit : List ℕ} → good ≡ true → n ≤ room → exit ≡ bytes ++ drop (length bytes) entry → Wrote (writing good n room bytes bad) 0 entry exit
   written g h e = rw (g, le-leb n room h) (record { told = refl; buffer = e })
-
--- what the copy of all of `bytes` leaves
-pub copied : (bytes entry : List ℕ) {exit : List ℕ} → exit ≡ take (length bytes) bytes ++ drop (length bytes) entry → exit ≡ bytes ++ drop (length bytes) entry
-copied bytes entry e = e ∙ ap (λ (l : List ℕ). l ++ drop (length bytes) entry) (take-all (length bytes) bytes (le-refl (length bytes)))
 
 -- two results that meet one promise are equal, and so are their buffers
 pub one-writing : {w : Writing} {code code′ : ℕ} {entry exit exit′ : List ℕ} → Wrote w code entry exit → Wrote w code′ entry exit′ → (code ≡ code′) × (exit ≡ exit′)

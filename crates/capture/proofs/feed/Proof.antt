@@ -1,13 +1,14 @@
 -- The loop's invariant: the call's outcome is what has been done, and then that of the rest. Assumes nothing.
-use mathlib.Core.Path.{sym}
 use borrow.Author.Tests.{not-true, not-false}
 use Prim.Native.Nat.{_-_}
 use native.Mathlib.Omega.{arith}
+use mathlib.Core.List.{[], _∷_}
+use Rattle.laws.proofs.Buffers.{laid}
 use mathlib.Core.Logic.{⊎-elim}
 use mathlib.Core.Path.{sym, _∙_}
 use lib.ListN.{length}
 use Rattle.capture.proofs.InRange.{turn-ranges}
-use Rattle.capture.proofs.Feeds.{Going, Moved, start, moved, finished, refused, full, silent, paired, stored, called, outside}
+use Rattle.capture.proofs.Feeds.{Going, Moved, start, moved, finished, refused, full, silent, paired, called, outside}
 use borrow.Author.Needs.{needs}
 use Rattle.capture.proofs.feed.Statement.{statement}
 use Rattle.capture.proofs.feed.Tie as tie
@@ -108,7 +109,7 @@ loop-again c =
     let g = m .going in
     let e = c .before .before .before .before .take-byte .ensures in
     let k = rw (← e) at (turn-ranges (a .reader) _ (c .before .before .before .before .before .shared-slice-known2 .given (a .at) .fits) (g .ok)) in
-    ⊎-elim (λ w. rw (w .7) (paired g (m .inside) e k (c .before .if2 .left) (w .0 .taken) (w .1 .left) (w .6 ∙ stored (c .before .before .before .before .before .before .before .before .before .loop .answers) (w .3 .last .0) _ _ _ (w .3 .ensures))))
+    ⊎-elim (λ w. rw (w .7) (paired g (m .inside) e k (c .before .if2 .left) (w .0 .taken) (w .1 .left) (w .6 ∙ laid (c .before .before .before .before .before .before .before .before .before .loop .answers) (w .3 .last .0) (_ ∷ _ ∷ []) _ (w .3 .ensures))))
     (λ w. rw (w .1, w .2) (silent g (m .inside) e k (c .before .if2 .left) (w .0 .left))) (c .if3 .came)
 
 report-requires-4 : tie.Need-report-requires-4 Inv-loop μ-loop

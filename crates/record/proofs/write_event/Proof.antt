@@ -3,7 +3,8 @@ use borrow.Author.Needs.{needs}
 use mathlib.Core.Path.{sym}
 use borrow.Author.Tests.{not-true, not-false}
 use mathlib.Core.Path.{sym, _∙_}
-use Rattle.record.proofs.Writings.{copied, event-refused, event-full, event-written}
+use Rattle.laws.proofs.Buffers.{copied}
+use Rattle.record.proofs.Writings.{event-refused, event-full, event-written}
 use Rattle.record.proofs.write_event.Statement.{statement}
 use Rattle.record.proofs.write_event.Tie as tie
 

@@ -3,7 +3,8 @@ use borrow.Author.Needs.{needs}
 use mathlib.Core.Path.{sym}
 use borrow.Author.Tests.{not-true, not-false}
 use mathlib.Core.Path.{sym, _∙_}
-use Rattle.record.proofs.Writings.{copied, header-refused, header-full, header-written}
+use Rattle.laws.proofs.Buffers.{copied}
+use Rattle.record.proofs.Writings.{header-refused, header-full, header-written}
 use Rattle.record.proofs.write_header.Statement.{statement}
 use Rattle.record.proofs.write_header.Tie as tie
 
