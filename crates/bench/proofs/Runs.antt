@@ -2,16 +2,14 @@
 -- Assumes nothing.
 use Prim.Native.Nat.{ℕ, _+_, _*_, _/_, _≤_, _<_}
 use mathlib.Core.Path.{_≡_, sym, ap, _∙_}
-use mathlib.Core.Bool.{true}
 use mathlib.Core.List.{List}
 use lib.Dec.{leb}
 use lib.ListN.{length, take}
 use borrow.Author.Tests.{leb-true, leb-false}
 use Rattle.capture.specs.declared.Fed.{Fed}
-use Rattle.capture.specs.Reader.{Out, freshOf, rangesOf, feedOf, callOf, finishOf, Meets}
+use Rattle.capture.specs.Reader.{Out, freshOf, feedOf, callOf, endOf, Meets}
 use Rattle.capture.specs.Whole.{wholeOf}
 use Rattle.capture.specs.Schedule.{Bytes}
-use Rattle.capture.proofs.Run.{run-ranges}
 use Rattle.capture.proofs.Rooms.{feed-fits, feed-short}
 use Rattle.capture.proofs.Cuts.{fresh-ranges}
 use Rattle.capture.proofs.Sections.{outcome, whole-run, whole-finishing}
@@ -28,24 +26,22 @@ module _ (xs : List ℕ) (room : ℕ) (fits : length (wholeOf xs .answers) ≤ r
       let run = whole-run xs in
       rw fresh-ranges (feed-fits freshOf xs room (rw (ap (λ (o : Out). length (o .answers)) run) fits) ∙ run)
 
-  end-fits : Bytes xs → finishOf (callOf freshOf xs room .reader) ≡ wholeOf xs .finishing
-  end-fits k =
-      let ranged : rangesOf (wholeOf xs .reader) ≡ true = rw (ap (λ (o : Out). rangesOf (o .reader)) (whole-run xs)) at (run-ranges freshOf xs k fresh-ranges) in
-      rw (ap (λ (o : Out). o .reader) call-fits) (rw ranged (whole-finishing xs))
+  end-fits : endOf (callOf freshOf xs room .reader) ≡ wholeOf xs .finishing
+  end-fits = rw (ap (λ (o : Out). o .reader) call-fits) (whole-finishing xs)
 
 -- ---- what the call returns
 
 -- a code and an end state that a call reports, as the bench reports them
-pub ran : (xs entry : List ℕ) {exit : List ℕ} (fed : Fed) → Bytes xs → Meets (callOf freshOf xs (length entry)) fed entry exit
+pub ran : (xs entry : List ℕ) {exit : List ℕ} (fed : Fed) → Meets (callOf freshOf xs (length entry)) fed entry exit
     → Ran (benchOf xs (length entry)) (fed .written * 16 + lastOf (fed .code) (fed .reader)) entry exit
 unfolding benchOf
-ran xs entry fed k m =
+ran xs entry fed m =
     by-test (leb (length (wholeOf xs .answers)) (length entry))
     (λ e.
     let fits = leb-true (length (wholeOf xs .answers)) (length entry) e in
     let call = call-fits xs (length entry) fits in
     let same = rw call at m in
-    let end : finishOf (fed .reader) ≡ wholeOf xs .finishing = rw (m .reader) (end-fits xs (length entry) fits k) in
+    let end : endOf (fed .reader) ≡ wholeOf xs .finishing = rw (m .reader) (end-fits xs (length entry) fits) in
     rw e (record { told = rw (same .written, same .code, end); buffer = same .buffer }))
     (λ e.
     let few = leb-false (length (wholeOf xs .answers)) (length entry) e in

@@ -7,7 +7,7 @@ use mathlib.Core.List.{List, _++_}
 use lib.Dec.{leb, eqb}
 use lib.ListN.{length, take, drop}
 use Rattle.capture.specs.declared.Reader.{Reader}
-use Rattle.capture.specs.Reader.{finishOf}
+use Rattle.capture.specs.Reader.{endOf}
 use Rattle.capture.specs.Whole.{Whole, wholeOf}
 
 -- the code, and the answer bytes that go to the front of the buffer
@@ -21,7 +21,7 @@ lastCode w = cond (eqb (w .code) 0) (w .finishing) (w .code)
 
 -- the same of a call's code and state
 abbrev pub lastOf : ℕ → Reader → ℕ
-lastOf code reader = cond (eqb code 0) (finishOf reader) code
+lastOf code reader = cond (eqb code 0) (endOf reader) code
 
 -- room for every answer
 abbrev pub roomy : Whole → Bench

@@ -9,7 +9,7 @@ fn last_code(code: u8, reader: Reader) -> u8
     ensures { λ r. ⌜ r ≡ lastOf code reader ⌝ }
 {
     if code == 0 {
-        capture::finish(reader)
+        capture::ending(reader)
     } else {
         code
     }

@@ -2,7 +2,6 @@
 ghost use mathlib.Core.Path.{_≡_};
 ghost use Rattle.bench_step.specs.BenchStep.{refusalOf, stepBytesOf, powerOnOf};
 use device::Device;
-use record::Record;
 
 // A step's code and its two answer bytes.
 #[repr(C)]
@@ -38,18 +37,14 @@ pub fn step_bytes(d: Device, kind: u8, a: u8, b: u8, c: u8) -> Taken
     if !(device::ranges::variant(d.variant) & device::ranges::ranged(d)) {
         return refusal(d, 8);
     }
-    let r = record::decode(kind, a, b, c);
-    let Record::Valid(e) = r else {
-        return refusal(d, record::code(r));
-    };
-    let o = device::effect(d, e);
-    let device = o.device;
+    let s = record::apply(d, kind, a, b, c);
+    let device = s.device;
     Taken {
         device,
         answer: Answer {
-            code: 0,
-            first: device::answer(o),
-            second: o.byte,
+            code: s.code,
+            first: s.first,
+            second: s.second,
         },
     }
 }

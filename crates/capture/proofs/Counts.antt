@@ -11,8 +11,7 @@ use Rattle.record.specs.declared.Record.the-variants.{Valid, Refused}
 use Rattle.record.specs.Record.{decodeOf}
 use Rattle.device.specs.Ranges.{variantOf}
 use Rattle.capture.specs.declared.Reader.{Reader}
-use Rattle.capture.specs.declared.Turn.{Turn}
-use Rattle.capture.specs.Reader.{headOf, judgedOf, recordOf, turnOf, pairOf, feedOf, callOf, freshOf}
+use Rattle.capture.specs.Reader.{Turn, headOf, judgedOf, recordOf, turnOf, pairOf, feedOf, callOf, freshOf}
 use Rattle.capture.specs.Schedule.{Bytes}
 use borrow.Author.Tests.{leb-true, eqb-true}
 use Rattle.capture.proofs.InRange.{ranges, below-limit, limit-all}

@@ -9,9 +9,8 @@ use lib.ListN.{length, drop, length-append, length-drop}
 use lib.Dec.{eqb}
 use borrow.Author.Tests.{leb-true, eqb-true, eqb-false}
 use Rattle.capture.specs.declared.Reader.{Reader}
-use Rattle.capture.specs.declared.Turn.{Turn}
 use Rattle.capture.specs.declared.Fed.{Fed}
-use Rattle.capture.specs.Reader.{Out, turnOf, pairOf, feedOf, callOf, rangesOf, Meets}
+use Rattle.capture.specs.Reader.{Turn, Out, turnOf, pairOf, feedOf, callOf, rangesOf, Meets}
 use Rattle.capture.specs.Schedule.{Part, Parts, joined, Bytes}
 use Rattle.capture.specs.Schedule.Part.{last, again}
 use Rattle.capture.specs.Schedule.Parts.{one, more}

@@ -17,10 +17,9 @@ use Rattle.record.specs.declared.Record.{Record}
 use Rattle.record.specs.declared.Record.the-variants.{Valid, Refused}
 use Rattle.record.specs.declared.Refusal.the-variants.{Kind, Operand}
 use Rattle.record.specs.Record.{decodeOf, codeOf}
-use Rattle.capture.specs.declared.Turn.{Turn}
 use Rattle.capture.specs.declared.Reader.{Reader}
 use Rattle.capture.specs.Sensor.{sensorRanges, sensorEffect}
-use Rattle.capture.specs.Reader.{placeOf, rangesOf, placeTests, limitOf, holdOf, openedOf, poweredOf, countedOf, carryOf, answeredOf, judgedOf, headOf, recordOf, turnOf}
+use Rattle.capture.specs.Reader.{Turn, placeOf, rangesOf, placeTests, limitOf, holdOf, openedOf, poweredOf, countedOf, carryOf, answeredOf, judgedOf, headOf, recordOf, turnOf}
 use Rattle.capture.proofs.Sensors.{early-ranges, powered-ranges, later-ranges, effect-ranges}
 
 -- ---- the tests of a state

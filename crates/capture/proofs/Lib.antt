@@ -3,6 +3,8 @@ pub mod Outcomes
 pub mod InRange
 pub mod Three
 pub mod Feeds
+pub mod Records
+pub mod Leads
 pub mod Run
 pub mod Sections
 pub mod Cuts

@@ -10,8 +10,7 @@ use native.Mathlib.Omega.{arith}
 use native.Mathlib.Nat.{sub-zero}
 use lib.ListN.{length, take, length-append}
 use Rattle.capture.specs.declared.Reader.{Reader}
-use Rattle.capture.specs.declared.Turn.{Turn}
-use Rattle.capture.specs.Reader.{Out, turnOf, pairOf, joinOf, feedOf}
+use Rattle.capture.specs.Reader.{Turn, Out, turnOf, pairOf, joinOf, feedOf}
 use Rattle.capture.proofs.Outcomes.{feed-stop, feed-full, feed-on}
 use Rattle.capture.proofs.Run.{runOf, run-nil, run-on, run-stop, cases}
 

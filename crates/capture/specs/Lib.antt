@@ -1,5 +1,6 @@
 pub mod Sensor
 pub mod Reader
+pub mod Loops
 pub mod Whole
 pub mod Schedule
 pub mod Written

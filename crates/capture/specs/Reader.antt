@@ -11,8 +11,6 @@ use Rattle.record.specs.declared.Record.{Record}
 use Rattle.record.specs.declared.Record.the-variants.{Valid, Refused}
 use Rattle.record.specs.Record.{decodeOf, codeOf}
 use Rattle.capture.specs.declared.Reader.{Reader}
-use Rattle.capture.specs.declared.Ahead.{Ahead}
-use Rattle.capture.specs.declared.Turn.{Turn}
 use Rattle.capture.specs.declared.Fed.{Fed}
 use Rattle.capture.specs.Sensor.{Answered, zeroSensor, sensorRanges, sensorPowered, sensorEffect, headerLength}
 
@@ -61,6 +59,13 @@ rangesOf s = allTrue (placeOf s ∷ leb (s .held) 5 ∷ sensorRanges (s .head) (
 
 -- ---- one byte
 
+-- the next state, and an answer pair or none
+pub record Turn : Type 0 where
+  pub reader : Reader
+  pub pair : Bool
+  pub first : ℕ
+  pub second : ℕ
+
 -- no answer
 abbrev pub quietOf : Reader → Turn
 quietOf s = record { reader = s; pair = false; first = 0; second = 0 }
@@ -84,21 +89,6 @@ headOf s b =
 
 abbrev pub carryOf : Reader → ℕ → Reader
 carryOf s b = record { head = s .head; count = s .count; done = s .done; carried = s .carried + 1; bytes = set (s .bytes) (s .carried) b; held = s .held; device = s .device }
-
--- a record begins here: the header is complete, a record is counted, and none of its bytes is carried
-unfoldable pub beginsOf : Reader → Bool
-beginsOf s = eqb (s .held) 0 && (eqb (s .head) headerLength && (eqb (s .carried) 0 && ltb (s .done) (s .count)))
-
--- its first three bytes carried at once
-abbrev pub threeOf : Reader → ℕ → ℕ → ℕ → Reader
-threeOf s a b c = record { head = s .head; count = s .count; done = s .done; carried = 3; bytes = set (set (set (s .bytes) 0 a) 1 b) 2 c; held = s .held; device = s .device }
-
--- before byte `at` of the input, with a whole record's first three bytes carried if one stands there
-unfoldable pub aheadOf : Reader → List ℕ → ℕ → Ahead
-aheadOf s input at =
-    cond (beginsOf s && leb (at + 4) (length input))
-    (record { reader = threeOf s (getD input at 0) (getD input (at + 1) 0) (getD input (at + 2) 0); at = at + 3 })
-    (record { reader = s; at = at })
 
 -- a record done: its answer pair, nothing carried
 abbrev pub answeredOf : Reader → Answered → Turn

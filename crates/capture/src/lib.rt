@@ -1,12 +1,11 @@
 // The capture's reader: fed in parts of any size, with any room for answers.
 ghost use mathlib.Core.Path.{_≡_};
-ghost use mathlib.Core.List.{_∷_};
-ghost use Prim.Native.Nat.{_≤_};
-ghost use lib.ListN.{length, drop};
-ghost use Rattle.capture.specs.Reader.{freshOf, callOf, finishOf, reportOf, Meets};
+ghost use lib.ListN.{length};
+ghost use Rattle.capture.specs.Reader.{freshOf, callOf, endOf, finishOf, reportOf, Meets};
 use device::Device;
 
 pub mod ranges;
+mod running;
 mod taking;
 
 // Header bytes taken, record count so far, records done, record bytes carried, a lasting code or 0, and the device.
@@ -18,14 +17,6 @@ pub struct Reader {
     pub bytes: [u8; 3],
     pub held: u8,
     pub device: Device,
-}
-
-// What one byte does: the next state, and an answer pair or none.
-pub struct Turn {
-    pub reader: Reader,
-    pub pair: bool,
-    pub first: u8,
-    pub second: u8,
 }
 
 // The state before a byte of the input.
@@ -58,16 +49,7 @@ pub fn fresh() -> Reader
     }
 }
 
-// The pair to the front of the room that is lent.
-fn put_pair(room: &mut [u8], first: u8, second: u8)
-    requires { ⌜ 2 ≤ length (now room) ⌝ }
-    ensures { λ _. ⌜ now (room .exit) ≡ first ∷ second ∷ drop 2 (now (room .entry)) ⌝ }
-{
-    room[0] = first;
-    room[1] = second;
-}
-
-fn report(code: u8, consumed: usize, written: usize, reader: Reader) -> Fed
+pub(crate) fn report(code: u8, consumed: usize, written: usize, reader: Reader) -> Fed
     ensures { λ r. ⌜ r ≡ reportOf code consumed written reader ⌝ }
 {
     Fed {
@@ -88,35 +70,30 @@ pub fn feed(reader: Reader, input: &[u8], answers: &mut [u8]) -> Fed
     let mut s = reader;
     let mut at = 0;
     let mut written = 0;
-    while at < input.len() {
-        let ahead = taking::carry_ahead(s, input, at);
+    loop {
+        let ahead = taking::lead(s, input, at);
         s = ahead.reader;
         at = ahead.at;
-        let t = taking::take_byte(s, input[at]);
-        let next = t.reader;
-        if next.held != 0 {
-            return report(next.held, at, written, next);
+        if (at == input.len()) | (s.held != 0) {
+            return report(s.held, at, written, s);
         }
-        if t.pair {
-            if answers.len() - written < 2 {
-                return report(7, at, written, s);
-            }
-            put_pair(&mut answers[written..], t.first, t.second);
-            written = written + 2;
+        if answers.len() - written < 2 {
+            return running::no_room(s, input[at], at, written);
         }
-        s = next;
-        at = at + 1;
+        let ran = running::run(s, input, at, answers, written);
+        if ran.code != 0 {
+            return ran;
+        }
+        s = ran.reader;
+        at = ran.consumed;
+        written = ran.written;
     }
-    report(s.held, at, written, s)
 }
 
-// Asked to finish: 8, the held code, 6 before the counted end, else 0.
-pub fn finish(reader: Reader) -> u8
-    ensures { λ r. ⌜ r ≡ finishOf reader ⌝ }
+// The finishing code of a state in its ranges: the held one, 6 before the counted end, else 0.
+pub fn ending(reader: Reader) -> u8
+    ensures { λ r. ⌜ r ≡ endOf reader ⌝ }
 {
-    if !ranges::in_range(reader) {
-        return 8;
-    }
     if reader.held != 0 {
         return reader.held;
     }
@@ -124,4 +101,15 @@ pub fn finish(reader: Reader) -> u8
         return 0;
     }
     6
+}
+
+// Asked to finish: 8 for a state out of its ranges, else its finishing code.
+pub fn finish(reader: Reader) -> u8
+    ensures { λ r. ⌜ r ≡ finishOf reader ⌝ }
+{
+    if ranges::in_range(reader) {
+        ending(reader)
+    } else {
+        8
+    }
 }

@@ -1,31 +1,19 @@
 // What one byte does to the reader's state.
 ghost use mathlib.Core.Path.{_≡_};
-ghost use mathlib.Core.Bool.{true};
-ghost use Prim.Native.Nat.{_<_};
-ghost use lib.ListN.{set};
-ghost use Rattle.capture.specs.Reader.{holdOf, quietOf, headOf, carryOf, beginsOf, threeOf, aheadOf, recordOf, turnOf, rangesOf};
+ghost use mathlib.Core.Bool.{true, false};
+ghost use Prim.Native.Nat.{_<_, _≤_};
+ghost use lib.ListN.{length, set};
+ghost use Rattle.capture.specs.Reader.{holdOf, quietOf, headOf, carryOf, turnOf, rangesOf};
+ghost use Rattle.capture.specs.Loops.{waitsOf, Led};
 use super::Ahead;
 use super::Reader;
-use super::Turn;
-use record::Record;
 
-fn hold(s: Reader, code: u8) -> Reader
+pub(crate) fn hold(s: Reader, code: u8) -> Reader
     ensures { λ r. ⌜ r ≡ holdOf s code ⌝ }
 {
     let mut next = s;
     next.held = code;
     next
-}
-
-fn quiet(s: Reader) -> Turn
-    ensures { λ r. ⌜ r ≡ quietOf s ⌝ }
-{
-    Turn {
-        reader: s,
-        pair: false,
-        first: 0,
-        second: 0,
-    }
 }
 
 fn wide(b: u8) -> u32
@@ -91,86 +79,48 @@ fn carry(s: Reader, b: u8) -> Reader
     next
 }
 
-// A record begins here: the header is complete, a record is counted, and none of its bytes is carried.
-fn begins(s: Reader) -> bool
-    ensures { λ r. ⌜ r ≡ beginsOf s ⌝ }
+// Three bytes of a record are carried: the next one completes it.
+fn waits(s: Reader) -> bool
+    ensures { λ r. ⌜ r ≡ waitsOf s ⌝ }
 {
-    (s.held == 0) & ((s.head == 6) & ((s.carried == 0) & (s.done < s.count)))
+    (s.held == 0) & (s.carried == 3)
 }
 
-fn carry_three(s: Reader, a: u8, b: u8, c: u8) -> Reader
-    ensures { λ r. ⌜ r ≡ threeOf s a b c ⌝ }
-{
-    let mut q = s.bytes;
-    q[0] = a;
-    q[1] = b;
-    q[2] = c;
-    let mut next = s;
-    next.bytes = q;
-    next.carried = 3;
-    next
-}
-
-// Three bytes at once where a whole record stands in the input, so that the next byte is its fourth.
-pub(crate) fn carry_ahead(s: Reader, input: &[u8], at: usize) -> Ahead
-    ensures { λ r. ⌜ r ≡ aheadOf s (now (input .entry)) at ⌝ }
-{
-    if !begins(s) {
-        return Ahead { reader: s, at };
-    }
-    if input.len() < 4 {
-        return Ahead { reader: s, at };
-    }
-    if input.len() - 4 < at {
-        return Ahead { reader: s, at };
-    }
-    Ahead {
-        reader: carry_three(s, input[at], input[at + 1], input[at + 2]),
-        at: at + 3,
-    }
-}
-
-// A record's fourth byte: the record is judged, and stepped if it is an event.
-fn take_record(s: Reader, c: u8) -> Turn
-    requires { ⌜ s .done < s .count ⌝ }
-    ensures { λ r. ⌜ r ≡ recordOf s c ⌝ }
-{
-    let q = s.bytes;
-    let r = record::decode(q[0], q[1], q[2], c);
-    let Record::Valid(e) = r else {
-        return quiet(hold(s, record::code(r)));
-    };
-    let device = s.device;
-    let o = device::effect(device, e);
-    let after = o.device;
-    let mut next = s;
-    next.done = s.done + 1;
-    next.carried = 0;
-    next.bytes = [0; 3];
-    next.device = after;
-    Turn {
-        reader: next,
-        pair: true,
-        first: device::answer(o),
-        second: o.byte,
-    }
-}
-
-pub(crate) fn take_byte(s: Reader, b: u8) -> Turn
+// A byte that completes no record: of the header, carried, or past the last counted record.
+fn take_quiet(s: Reader, b: u8) -> Reader
     requires { ⌜ rangesOf s ≡ true ⌝ }
-    ensures { λ r. ⌜ r ≡ turnOf s b ⌝ }
+    requires { ⌜ waitsOf s ≡ false ⌝ }
+    ensures { λ r. ⌜ turnOf s b ≡ quietOf r ⌝ }
 {
     if s.held != 0 {
-        return quiet(s);
+        return s;
     }
     if s.head < 6 {
-        return quiet(head_byte(s, b));
+        return head_byte(s, b);
     }
     if s.done < s.count {
-        if s.carried < 3 {
-            return quiet(carry(s, b));
-        }
-        return take_record(s, b);
+        return carry(s, b);
     }
-    quiet(hold(s, 5))
+    hold(s, 5)
+}
+
+// As many bytes as complete no record.
+pub(crate) fn lead(s: Reader, input: &[u8], from: usize) -> Ahead
+    requires { ⌜ rangesOf s ≡ true ⌝ }
+    requires { ⌜ from ≤ length (now input) ⌝ }
+    ensures { λ r. ⌜ Led (now (input .entry)) s from r ⌝ }
+{
+    let mut n = s;
+    let mut at = from;
+    while at < input.len() {
+        if waits(n) {
+            break;
+        }
+        n = take_quiet(n, input[at]);
+        if n.held != 0 {
+            break;
+        }
+        at = at + 1;
+    }
+    Ahead { reader: n, at }
 }

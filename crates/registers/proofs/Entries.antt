@@ -1,54 +1,56 @@
 -- The program's tests of a register number against the page, each by one computed comparison over the 256 numbers.
 -- Assumes nothing.
 use mathlib.Core.Path.{_≡_, refl, ap, _∙_}
-use mathlib.Core.Bool.{Bool, true, false, cond, _&&_, _||_}
-use Prim.Native.Nat.{ℕ, zero, suc, _-_, _<_, _≤_}
+use mathlib.Core.Bool.{Bool, true, false, cond, not, _&&_, _||_}
+use Prim.Native.Nat.{ℕ, zero, suc, _+_, _/_, _%_, _^_, _<_, _≤_}
 use native.Mathlib.Omega.{arith}
-use lib.Dec.{eqb, leb}
-use borrow.Author.Tests.{leb-true}
-use Rattle.laws.proofs.Choices.{and-left}
+use lib.Dec.{eqb, ltb, leb}
+use lib.Bits.{bitAnd}
 use Rattle.laws.proofs.Tables.{agree}
-use Rattle.registers.specs.declared.Position.{Position}
 use Rattle.registers.specs.declared.Position.the-variants.{At, Nowhere}
-use Rattle.registers.specs.Page.{Default, everyVariant, each, column, page, readOnlyIn, readableOf, writableOf, writePositionOf, readPositionOf, sharedPositionOf, keptOf, readOnlyOf}
+use Rattle.registers.specs.Page.{Default, everyVariant, each, column, page, readOnlyIn, readableOf, writableOf, knownOf, writePositionOf, readPositionOf, keptOf, readOnlyOf}
 
 -- ---- the right to read and to write
 
-pub read-right : (r : ℕ) → r < 256 → (leb r 0x08 || (leb 0x10 r && leb r 0x14) || eqb r 0x19 || (leb 0x20 r && leb r 0x21) || eqb r 0xBF || leb 0xFE r) ≡ readableOf r
-unfolding readableOf
-read-right = agree (λ r. leb r 0x08 || (leb 0x10 r && leb r 0x14) || eqb r 0x19 || (leb 0x20 r && leb r 0x21) || eqb r 0xBF || leb 0xFE r) readableOf 256 refl
+-- bit r of a set of registers below 40
+abbrev listed : ℕ → ℕ → Bool
+listed set r = ltb r 0x40 && not (eqb (bitAnd (set / 2 ^ (r % 0x40)) 1) 0)
 
-pub write-right : (r : ℕ) → r < 256 → ((leb 0x09 r && leb r 0x0F) || (leb 0x11 r && leb r 0x14) || eqb r 0x19 || (leb 0x20 r && leb r 0x21) || eqb r 0xBF) ≡ writableOf r
+pub read-right : (r : ℕ) → r < 256 → (listed 0x3021F01FF r || eqb r 0xBF || leb 0xFE r) ≡ readableOf r
+unfolding readableOf
+read-right = agree (λ r. listed 0x3021F01FF r || eqb r 0xBF || leb 0xFE r) readableOf 256 refl
+
+pub write-right : (r : ℕ) → r < 256 → (listed 0x3021EFE00 r || eqb r 0xBF) ≡ writableOf r
 unfolding writableOf
-write-right = agree (λ r. (leb 0x09 r && leb r 0x0F) || (leb 0x11 r && leb r 0x14) || eqb r 0x19 || (leb 0x20 r && leb r 0x21) || eqb r 0xBF) writableOf 256 refl
+write-right = agree (λ r. listed 0x3021EFE00 r || eqb r 0xBF) writableOf 256 refl
+
+pub either-right : (r : ℕ) → r < 256 → (listed 0x3021FFFFF r || eqb r 0xBF || leb 0xFE r) ≡ knownOf r
+unfolding knownOf readableOf writableOf
+either-right = agree (λ r. listed 0x3021FFFFF r || eqb r 0xBF || leb 0xFE r) knownOf 256 refl
 
 -- ---- the position
 
-abbrev sharedChoice : ℕ → Position
-sharedChoice r =
-    cond (leb 0x11 r && leb r 0x14) (At (r - 0x0B))
-    (cond (eqb r 0x19) (At 10)
-    (cond (leb 0x20 r && leb r 0x21) (At (r - 0x15))
-    (cond (eqb r 0xBF) (At 13) Nowhere)))
+abbrev place : ℕ → ℕ → ℕ
+place r low =
+    (r % 16 + cond (ltb r 0x10) low 0 + cond (leb 0x10 r) 5 0 + cond (leb 0x15 r) 12 0 + cond (leb 0x20 r) 10 0 + cond (leb 0x30 r) 3 0) % 16
 
-pub shared-place : (r : ℕ) → r < 256 → sharedChoice r ≡ sharedPositionOf r
-unfolding sharedPositionOf readPositionOf
-shared-place = agree sharedChoice sharedPositionOf 256 refl
+pub read-place : (r : ℕ) → r < 256 → cond (listed 0x3021E01F8 r || eqb r 0xBF) (At (place r 13)) Nowhere ≡ readPositionOf r
+unfolding readPositionOf
+read-place = agree (λ r. cond (listed 0x3021E01F8 r || eqb r 0xBF) (At (place r 13)) Nowhere) readPositionOf 256 refl
 
-pub read-place : (r : ℕ) → r < 256 → cond (leb 0x03 r && leb r 0x08) (At (r - 0x03)) (sharedPositionOf r) ≡ readPositionOf r
-unfolding sharedPositionOf readPositionOf
-read-place = agree (λ r. cond (leb 0x03 r && leb r 0x08) (At (r - 0x03)) (sharedPositionOf r)) readPositionOf 256 refl
-
-pub write-place : (r : ℕ) → r < 256 → cond (leb 0x09 r && leb r 0x0E) (At (r - 0x09)) (sharedPositionOf r) ≡ writePositionOf r
-unfolding sharedPositionOf readPositionOf writePositionOf
-write-place = agree (λ r. cond (leb 0x09 r && leb r 0x0E) (At (r - 0x09)) (sharedPositionOf r)) writePositionOf 256 refl
+pub write-place : (r : ℕ) → r < 256 → cond (listed 0x3021E7E00 r || eqb r 0xBF) (At (place r 7)) Nowhere ≡ writePositionOf r
+unfolding writePositionOf
+write-place = agree (λ r. cond (listed 0x3021E7E00 r || eqb r 0xBF) (At (place r 7)) Nowhere) writePositionOf 256 refl
 
 -- ---- kept bits
 
-pub kept-bits : (r : ℕ) → r < 256
-    → cond (eqb r 0x03 || eqb r 0x09) 0xD5 (cond (leb 0x12 r && leb r 0x14) 0xE0 (cond (eqb r 0x21) 0x1F (cond (eqb r 0xBF) 0x07 0xFF))) ≡ keptOf r
+abbrev masks : ℕ → ℕ
+masks r =
+    bitAnd (bitAnd (bitAnd (cond (eqb r 0x03 || eqb r 0x09) 0xD5 0xFF) (cond (leb 0x12 r && leb r 0x14) 0xE0 0xFF)) (cond (eqb r 0x21) 0x1F 0xFF)) (cond (eqb r 0xBF) 0x07 0xFF)
+
+pub kept-bits : (r : ℕ) → r < 256 → masks r ≡ keptOf r
 unfolding keptOf
-kept-bits = agree (λ r. cond (eqb r 0x03 || eqb r 0x09) 0xD5 (cond (leb 0x12 r && leb r 0x14) 0xE0 (cond (eqb r 0x21) 0x1F (cond (eqb r 0xBF) 0x07 0xFF)))) keptOf 256 refl
+kept-bits = agree masks keptOf 256 refl
 
 -- ---- power-on
 
@@ -86,8 +88,3 @@ read-only-else v r h a b =
   where
     choice : (s t : Bool) → s ≡ false → t ≡ false → cond s (everyVariant 0x01) (cond t (each 0x31 0x34 0x35) (everyVariant 0)) ≡ everyVariant 0
     choice s t p q = rw (p, q)
-
--- ---- a number in a range
-
-pub at-least : (low high r : ℕ) → (leb low r && leb r high) ≡ true → low ≤ r
-at-least low high r e = leb-true low r (and-left (leb low r) (leb r high) e)

@@ -5,7 +5,7 @@
 use Prim.Native.Nat.{ℕ, suc}
 use mathlib.Core.Bool.{Bool, false, _||_, cond}
 use mathlib.Core.List.{List, [], _∷_, map}
-use lib.Dec.{eqb, leb}
+use lib.Dec.{eqb}
 use lib.ListN.{getD, set}
 use Rattle.registers.specs.declared.Position.{Position}
 use Rattle.registers.specs.declared.Position.the-variants.{At, Nowhere}
@@ -147,10 +147,6 @@ writePositionOf w = find w 0 (map (λ (s : Settable). s .write) settable)
 
 unfoldable pub readPositionOf : ℕ → Position
 readPositionOf r = find r 0 (map (λ (s : Settable). s .read) settable)
-
--- the position of one that is read and written at the same number
-unfoldable pub sharedPositionOf : ℕ → Position
-sharedPositionOf r = cond (leb r 0x10) Nowhere (readPositionOf r)
 
 -- one answer for a position, another for none
 module _ {A : Type 0} where

@@ -1,6 +1,10 @@
 // The registers: which are readable and writable, the fourteen settable bytes, kept bits and power-on bytes.
 ghost use mathlib.Core.Path.{_≡_};
-ghost use Rattle.registers.specs.Page.{readableOf, writableOf, knownOf, sharedPositionOf, writePositionOf, readPositionOf, keptOf, powerOnOf, readOnlyOf, addressOf};
+ghost use mathlib.Core.Bool.{_&&_, not, cond};
+ghost use Prim.Native.Nat.{_<_, _+_, _/_, _%_, _^_};
+ghost use lib.Dec.{eqb, ltb, leb};
+ghost use lib.Bits.{bitAnd};
+ghost use Rattle.registers.specs.Page.{readableOf, writableOf, knownOf, writePositionOf, readPositionOf, keptOf, powerOnOf, readOnlyOf, addressOf};
 
 // Where a settable register's byte stands among the fourteen.
 pub enum Position {
@@ -38,61 +42,72 @@ pub const ONE_SHOT: u8 = 0x0F;
 
 pub const STATUS: u8 = 0x02;
 
+// Bit `reg` of a set of registers below 40.
+fn listed(set: u64, reg: u8) -> bool
+    ensures { λ r. ⌜ r ≡ (ltb reg 0x40 && not (eqb (bitAnd (set / 2 ^ (reg % 0x40)) 1) 0)) ⌝ }
+{
+    (reg < 0x40) & ((set >> (reg % 0x40)) & 1 != 0)
+}
+
+// A mask where it is on, all bits where it is not.
+fn only(on: bool, mask: u8) -> u8
+    ensures { λ r. ⌜ r ≡ cond on mask 0xFF ⌝ }
+{
+    if on { mask } else { 0xFF }
+}
+
+fn shift(on: bool, n: u8) -> u8
+    requires { ⌜ n < 16 ⌝ }
+    ensures { λ r. ⌜ r ≡ cond on n 0 ⌝ }
+    ensures { λ r. ⌜ r < 16 ⌝ }
+{
+    if on { n } else { 0 }
+}
+
+// A settable register's place among the fourteen, modulo 16: its number less the numbers that the page skips below it. Below
+// 10 the shift is `low`.
+fn place(reg: u8, low: u8) -> u8
+    requires { ⌜ low < 16 ⌝ }
+    ensures { λ r. ⌜ r ≡ (reg % 16 + cond (ltb reg 0x10) low 0 + cond (leb 0x10 reg) 5 0 + cond (leb 0x15 reg) 12 0 + cond (leb 0x20 reg) 10 0 + cond (leb 0x30 reg) 3 0) % 16 ⌝ }
+{
+    (reg % 16
+        + shift(reg < 0x10, low)
+        + shift(0x10 <= reg, 5)
+        + shift(0x15 <= reg, 12)
+        + shift(0x20 <= reg, 10)
+        + shift(0x30 <= reg, 3))
+        % 16
+}
+
 // 00 to 08, 10 to 14, 19, 20, 21, BF, FE, FF.
 pub fn readable(reg: u8) -> bool
     ensures { λ r. ⌜ r ≡ readableOf reg ⌝ }
 {
-    (reg <= 0x08)
-        | ((0x10 <= reg) & (reg <= 0x14))
-        | (reg == 0x19)
-        | ((0x20 <= reg) & (reg <= 0x21))
-        | (reg == 0xBF)
-        | (0xFE <= reg)
+    listed(0x3021F01FF, reg) | (reg == 0xBF) | (0xFE <= reg)
 }
 
 // 09 to 0F, 11 to 14, 19, 20, 21, BF.
 pub fn writable(reg: u8) -> bool
     ensures { λ r. ⌜ r ≡ writableOf reg ⌝ }
 {
-    ((0x09 <= reg) & (reg <= 0x0F))
-        | ((0x11 <= reg) & (reg <= 0x14))
-        | (reg == 0x19)
-        | ((0x20 <= reg) & (reg <= 0x21))
-        | (reg == 0xBF)
+    listed(0x3021EFE00, reg) | (reg == 0xBF)
 }
 
 // In R or W.
 pub fn known(reg: u8) -> bool
     ensures { λ r. ⌜ r ≡ knownOf reg ⌝ }
 {
-    readable(reg) | writable(reg)
-}
-
-// The registers from 11 on are read and written at one number.
-fn shared_position(reg: u8) -> Position
-    ensures { λ r. ⌜ r ≡ sharedPositionOf reg ⌝ }
-{
-    if (0x11 <= reg) & (reg <= 0x14) {
-        Position::At(reg - 0x0B)
-    } else if reg == 0x19 {
-        Position::At(10)
-    } else if (0x20 <= reg) & (reg <= 0x21) {
-        Position::At(reg - 0x15)
-    } else if reg == 0xBF {
-        Position::At(13)
-    } else {
-        Position::Nowhere
-    }
+    listed(0x3021FFFFF, reg) | (reg == 0xBF) | (0xFE <= reg)
 }
 
 // 09 to 0E are the first six.
 pub fn write_position(reg: u8) -> Position
     ensures { λ r. ⌜ r ≡ writePositionOf reg ⌝ }
 {
-    if (0x09 <= reg) & (reg <= 0x0E) {
-        Position::At(reg - 0x09)
+    if listed(0x3021E7E00, reg) | (reg == 0xBF) {
+        Position::At(place(reg, 7))
     } else {
-        shared_position(reg)
+        Position::Nowhere
     }
 }
 
@@ -100,10 +115,10 @@ pub fn write_position(reg: u8) -> Position
 pub fn read_position(reg: u8) -> Position
     ensures { λ r. ⌜ r ≡ readPositionOf reg ⌝ }
 {
-    if (0x03 <= reg) & (reg <= 0x08) {
-        Position::At(reg - 0x03)
+    if listed(0x3021E01F8, reg) | (reg == 0xBF) {
+        Position::At(place(reg, 13))
     } else {
-        shared_position(reg)
+        Position::Nowhere
     }
 }
 
@@ -111,17 +126,10 @@ pub fn read_position(reg: u8) -> Position
 pub fn kept(reg: u8) -> u8
     ensures { λ r. ⌜ r ≡ keptOf reg ⌝ }
 {
-    if (reg == 0x03) | (reg == 0x09) {
-        0xD5
-    } else if (0x12 <= reg) & (reg <= 0x14) {
-        0xE0
-    } else if reg == 0x21 {
-        0x1F
-    } else if reg == 0xBF {
-        0x07
-    } else {
-        0xFF
-    }
+    only((reg == 0x03) | (reg == 0x09), 0xD5)
+        & only((0x12 <= reg) & (reg <= 0x14), 0xE0)
+        & only(reg == 0x21, 0x1F)
+        & only(reg == 0xBF, 0x07)
 }
 
 // The fourteen bytes at power-on; none but variants 1 to 3 has a table.

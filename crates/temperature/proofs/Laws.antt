@@ -8,6 +8,8 @@ use native.Mathlib.Omega.{arith}
 use lib.IntN.{ℤ, pos, negsuc, subℕ, _+ℤ_, _-ℤ_, _*ℤ_}
 use lib.Signed.{mag, ltZ}
 use lib.Dec.{T, leb, ltb, leb→le, lit<}
+use lib.Bits.{bitXor}
+use Rattle.laws.proofs.Tables.{agree}
 use borrow.Author.Tests.{lt-ltb, le-ltb, ltb-true, ltb-false}
 use mir.Syntax.{w8, w16, w32}
 use mir.Val.{SFits, Fits, toZ, ofZ}
@@ -78,16 +80,20 @@ within-pos H h = record { within = h }
 
 -- ---- a byte
 
-pub byte-pos : {b : ℕ} → Fits w8 b → toZ w16 b ≡ pos b
-byte-pos h = toZ-pos w16 (omega (arith, h .fits))
+flipped-small : (b : ℕ) → b < 256 → ltb (bitXor b 0x80) 256 ≡ true
+flipped-small = agree (λ b. ltb (bitXor b 0x80) 256) (λ b. true) 256 refl
 
-pub low-half : {b : ℕ} → b < 0x80 → degreesOf b ≡ pos b
-unfolding degreesOf
-low-half {b} h = rw (lt-ltb b 0x80 h)
+-- a byte with its top bit turned, as a number
+pub flipped : {b : ℕ} → Fits w8 b → bitXor b 0x80 < 256
+flipped {b} h = ltb-true _ _ (flipped-small b (h .fits))
 
-pub high-half : {b : ℕ} → 0x80 ≤ b → degreesOf b ≡ pos b -ℤ pos 0x100
+pub flipped-pos : {b : ℕ} → Fits w8 b → toZ w16 (bitXor b 0x80) ≡ pos (bitXor b 0x80)
+flipped-pos h = toZ-pos w16 (omega (arith, flipped h))
+
+-- less 128, it is the byte in degrees
+pub lowered : (b : ℕ) → b < 256 → pos (bitXor b 0x80) -ℤ pos 0x80 ≡ degreesOf b
 unfolding degreesOf
-high-half {b} h = rw (le-ltb b 0x80 h)
+lowered = agree (λ b. pos (bitXor b 0x80) -ℤ pos 0x80) degreesOf 256 refl
 
 pub byte-within : {b : ℕ} → Fits w8 b → Within 128 (degreesOf b)
 unfolding degreesOf

@@ -6,7 +6,7 @@ ghost use Rattle.temperature.specs.Temperature.{degreesOf, eighthsOf, he
 pub fn degrees(b: u8) -> i16
     ensures { λ r. ⌜ r ≡ degreesOf b ⌝ }
 {
-    if b < 0x80 { b as i16 } else { b as i16 - 0x100 }
+    (b ^ 0x80) as i16 - 0x80
 }
 
 // P1: a high byte and the top three bits of a low byte as eighths.

@@ -38,9 +38,8 @@ same-length c = search needs
 returns : tie.Need-returns
 returns c =
     let a = c .before .before .before .before .before .before .before .before .before .args in
-    let k = bytes-of (a .bytes .now) (λ i. c .before .before .before .before .before .before .before .before .shared-slice-known .given i .fits) in
     let m = rw (c .before .before .before .before .before .before .fresh .ensures) at (c .before .before .before .before .feed .ensures) in
-    rw (c .last-code .ensures) (ran (a .bytes .now) (a .answers .now) (c .before .before .before .before .feed .result) k m)
+    rw (c .last-code .ensures) (ran (a .bytes .now) (a .answers .now) (c .before .before .before .before .feed .result) m)
 
 pub lm89-run-spec : {M : Type 1} → statement M
 lm89-run-spec =

@@ -1,18 +1,14 @@
 -- Assumes nothing.
 use borrow.Author.Needs.{needs}
-use Rattle.registers.specs.Page.{knownOf}
+use Rattle.registers.proofs.Entries.{either-right}
 use Rattle.registers.proofs.known.Statement.{statement}
 use Rattle.registers.proofs.known.Tie as tie
 
-readable-requires : tie.Need-readable-requires
-readable-requires c κs = search needs
-
-writable-requires : tie.Need-writable-requires
-writable-requires c κs = search needs
+listed-requires : tie.Need-listed-requires
+listed-requires c κs = search needs
 
 returns : tie.Need-returns
-unfolding knownOf
-returns c = rw (c .writable .ensures, c .before .readable .ensures)
+returns c = rw (c .listed .ensures) (either-right (c .before .args .reg) (c .before .fits .reg .fits))
 
 pub known-spec : {M : Type 1} → statement M
-known-spec = tie.close (tie.spec readable-requires writable-requires returns)
+known-spec = tie.close (tie.spec listed-requires returns)

@@ -1,27 +1,20 @@
--- A byte below 80h is itself, any other is less by 100h. Assumes nothing.
-use mathlib.Core.Path.{sym, _∙_}
-use borrow.Author.Needs.{needs}
+-- A byte with its top bit turned, less 128, is the byte in degrees. Assumes nothing.
+use mathlib.Core.Path.{_∙_}
 use mir.Facts.{toZ-ofZ}
-use Rattle.temperature.proofs.Laws.{fits16, byte-pos, byte-within, low-half, high-half}
+use Rattle.temperature.proofs.Laws.{fits16, within-pos, byte-within, flipped, flipped-pos, lowered}
 use Rattle.temperature.proofs.degrees.Statement.{statement}
 use Rattle.temperature.proofs.degrees.Tie as tie
 
 cast-result : tie.Need-cast-result
-cast-result c = search needs
-
-cast-result-2 : tie.Need-cast-result-2
-cast-result-2 c = search needs
+cast-result c = fits16 (within-pos 256 (flipped (c .fits .b))) tt
 
 sub-result : tie.Need-sub-result
 sub-result c =
-    let b = c .before .fits .b in
-    rw (byte-pos b, ← (high-half (c .if1 .left))) (fits16 (byte-within b) tt)
+    let b = c .fits .b in
+    rw (flipped-pos b, lowered (c .args .b) (b .fits)) (fits16 (byte-within b) tt)
 
 returns : tie.Need-returns
-returns c = byte-pos (c .before .fits .b) ∙ sym (low-half (c .if1 .taken))
-
-returns-2 : tie.Need-returns-2
-returns-2 c = toZ-ofZ (sub-result c) ∙ rw (byte-pos (c .before .fits .b), ← (high-half (c .if1 .left)))
+returns c = toZ-ofZ (sub-result c) ∙ rw (flipped-pos (c .fits .b)) (lowered (c .args .b) (c .fits .b .fits))
 
 pub degrees-spec : {M : Type 1} → statement M
-degrees-spec = tie.close (tie.spec cast-result cast-result-2 sub-result returns returns-2)
+degrees-spec = tie.close (tie.spec cast-result sub-result returns)

@@ -1,8 +1,8 @@
 -- Assumes nothing.
 use borrow.Author.Needs.{needs}
 use Rattle.capture.proofs.Feeds.{two}
-use Rattle.capture.proofs.put_pair.Statement.{statement}
-use Rattle.capture.proofs.put_pair.Tie as tie
+use Rattle.capture.proofs.running.put_pair.Statement.{statement}
+use Rattle.capture.proofs.running.put_pair.Tie as tie
 
 slice-write-room : tie.Need-slice-write-room
 slice-write-room c = search needs

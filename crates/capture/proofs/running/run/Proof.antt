@@ -1,0 +1,164 @@
+-- Assumes nothing.
+use borrow.Author.Needs.{needs}
+use Prim.Native.Nat.{_+_, _-_, _≤_, _<_}
+use borrow.Rule.Slice.PartMut.{putMid}
+use native.Mathlib.Omega.{arith}
+use lib.ListN.{length}
+use mathlib.Core.Path.{_∙_}
+use mathlib.Core.List.{[], _∷_}
+use Rattle.laws.proofs.Buffers.{laid}
+use Rattle.capture.proofs.Records.{Running, goes-on, run-start, run-refused, run-left, run-again, same-room}
+use Rattle.capture.proofs.running.run.Statement.{statement}
+use Rattle.capture.proofs.running.run.Tie as tie
+
+abbrev Inv-loop : tie.InvT-loop
+Inv-loop s input from answers₀ start kind₀ a₀ b₀ device₀ done₀ at₀ written₀ answers kind a b device done at written = Running s input answers₀ from start answers kind a b device done at written
+
+abbrev μ-loop : tie.MeasureT-loop
+μ-loop s input from answers₀ start kind₀ a₀ b₀ device₀ done₀ at₀ written₀ answers kind a b device done at written = length input - at
+
+-- behind the loop's test: another record is counted, its four bytes are there, and so is room
+more : (c : tie.Else2 Inv-loop μ-loop)
+    → (c .before .before .before .before .before .before .before .before .before .before .before .loop .done + 1 < c .before .before .before .before .before .before .before .before .before .before .before .before .before .before .before .before .args .s .count) × ((4 ≤ length (c .before .before .before .before .before .before .before .before .before .before .before .before .before .before .before .before .args .input .now) - (c .before .before .before .before .before .before .before .before .before .before .before .loop .at + 1)) × (2 ≤ length (putMid (c .before .before .before .before .before .before .before .before .before .before .before .loop .written) (length (c .before .before .before .before .before .before .before .before .before .before .before .loop .answers) - c .before .before .before .before .before .before .before .before .before .before .before .loop .written) (c .before .before .before .before .before .before .before .before .before .before .before .loop .answers) (c .before .before .before .before .before .put-pair .last .0)) - (c .before .before .before .before .before .before .before .before .before .before .before .loop .written + 2)))
+more c = goes-on (c .before .before .before .before .before .before .before .before .before .before .before .before .before .before .before .before .args .s .count) (c .before .before .before .before .before .before .before .before .before .before .before .loop .done + 1) (length (c .before .before .before .before .before .before .before .before .before .before .before .before .before .before .before .before .args .input .now)) (c .before .before .before .before .before .before .before .before .before .before .before .loop .at + 1) (length (putMid (c .before .before .before .before .before .before .before .before .before .before .before .loop .written) (length (c .before .before .before .before .before .before .before .before .before .before .before .loop .answers) - c .before .before .before .before .before .before .before .before .before .before .before .loop .written) (c .before .before .before .before .before .before .before .before .before .before .before .loop .answers) (c .before .before .before .before .before .put-pair .last .0))) (c .before .before .before .before .before .before .before .before .before .before .before .loop .written + 2) (c .if2 .left)
+
+array-read-kind : tie.Need-array-read-kind Inv-loop μ-loop
+array-read-kind c = search needs
+
+array-read-a : tie.Need-array-read-a Inv-loop μ-loop
+array-read-a c = search needs
+
+array-read-b : tie.Need-array-read-b Inv-loop μ-loop
+array-read-b c = search needs
+
+loop-holds : tie.Need-loop-holds Inv-loop μ-loop
+loop-holds c =
+    let a = c .before .before .before .before .args in
+    let p = c .before .before .before .before .pre in
+    run-start (a .s) (a .input .now) (a .answers .now) (a .from) (a .start) (p .0) (p .1 .0) (search needs) (p .1 .1 .0) (p .1 .1 .1) (omega arith) (omega arith)
+
+shared-slice-read-apply : tie.Need-shared-slice-read-apply Inv-loop μ-loop
+shared-slice-read-apply c = search needs
+
+apply-requires : tie.Need-apply-requires Inv-loop μ-loop
+apply-requires c κs = search needs
+
+carrying-requires : tie.Need-carrying-requires Inv-loop μ-loop
+carrying-requires c κs = search needs
+
+hold-requires : tie.Need-hold-requires Inv-loop μ-loop
+hold-requires c κs = search needs
+
+report-requires : tie.Need-report-requires Inv-loop μ-loop
+report-requires c κs = search needs
+
+same-length : tie.Need-same-length Inv-loop μ-loop
+same-length c = search needs
+
+returns : tie.Need-returns Inv-loop μ-loop
+returns c = rw (c .report .ensures, c .before .hold .ensures, c .before .before .carrying .ensures) (run-refused (c .before .before .before .before .before .before .before .loop .inv) (c .before .before .before .before .before .apply .ensures) (c .before .before .before .if1 .taken))
+
+sub-put-pair : tie.Need-sub-put-pair Inv-loop μ-loop
+sub-put-pair c = search needs
+
+part-put-pair-start : tie.Need-part-put-pair-start Inv-loop μ-loop
+part-put-pair-start c = search needs
+
+part-put-pair-end : tie.Need-part-put-pair-end Inv-loop μ-loop
+part-put-pair-end c = search needs
+
+put-pair-requires : tie.Need-put-pair-requires Inv-loop μ-loop
+put-pair-requires c κs = search needs
+
+add-done : tie.Need-add-done Inv-loop μ-loop
+add-done c = search needs
+
+add-written : tie.Need-add-written Inv-loop μ-loop
+add-written c = search needs
+
+add-at : tie.Need-add-at Inv-loop μ-loop
+add-at c = search needs
+
+sub-if2 : tie.Need-sub-if2 Inv-loop μ-loop
+sub-if2 c = search needs
+
+sub-if2-2 : tie.Need-sub-if2-2 Inv-loop μ-loop
+sub-if2-2 c = search needs
+
+between-requires : tie.Need-between-requires Inv-loop μ-loop
+between-requires c κs = search needs
+
+report-requires-2 : tie.Need-report-requires-2 Inv-loop μ-loop
+report-requires-2 c κs = search needs
+
+same-length-2 : tie.Need-same-length-2 Inv-loop μ-loop
+same-length-2 c = same-room (c .before .before .before .before .before .before .before .before .before .before .before .before .before .loop .inv) (c .before .before .before .before .before .before .before .before .before .before .before .apply .ensures) (λ i. c .before .before .before .before .before .before .before .before .before .before .before .before .shared-slice-known2 .given i .fits) (c .before .before .before .before .before .before .before .before .before .if1 .left) (laid (c .before .before .before .before .before .before .before .before .before .before .before .before .before .loop .answers) (c .before .before .before .before .before .before .before .put-pair .last .0) (_ ∷ _ ∷ []) _ (c .before .before .before .before .before .before .before .put-pair .ensures)) ∙ c .before .before .before .before .before .before .before .before .before .before .before .before .before .loop .inv .long
+
+returns-2 : tie.Need-returns-2 Inv-loop μ-loop
+returns-2 c = rw (c .report2 .ensures, c .before .between .ensures) (run-left (c .before .before .before .before .before .before .before .before .before .before .before .before .before .loop .inv) (c .before .before .before .before .before .before .before .before .before .before .before .apply .ensures) (λ i. c .before .before .before .before .before .before .before .before .before .before .before .before .shared-slice-known2 .given i .fits) (c .before .before .before .before .before .before .before .before .before .if1 .left) (laid (c .before .before .before .before .before .before .before .before .before .before .before .before .before .loop .answers) (c .before .before .before .before .before .before .before .put-pair .last .0) (_ ∷ _ ∷ []) _ (c .before .before .before .before .before .before .before .put-pair .ensures)))
+
+shared-slice-read-kind : tie.Need-shared-slice-read-kind Inv-loop μ-loop
+shared-slice-read-kind c = omega (arith, more (c .before) .1 .0, c .before .before .before .before .before .before .before .before .before .before .before .before .loop .inv .input-fits)
+
+add-a : tie.Need-add-a Inv-loop μ-loop
+add-a c = omega (arith, more (c .before) .1 .0, c .before .before .before .before .before .before .before .before .before .before .before .before .loop .inv .input-fits)
+
+shared-slice-read-a : tie.Need-shared-slice-read-a Inv-loop μ-loop
+shared-slice-read-a c = omega (arith, more (c .before .before) .1 .0, c .before .before .before .before .before .before .before .before .before .before .before .before .before .loop .inv .input-fits)
+
+add-b : tie.Need-add-b Inv-loop μ-loop
+add-b c = omega (arith, more (c .before .before) .1 .0, c .before .before .before .before .before .before .before .before .before .before .before .before .before .loop .inv .input-fits)
+
+shared-slice-read-b : tie.Need-shared-slice-read-b Inv-loop μ-loop
+shared-slice-read-b c = omega (arith, more (c .before .before .before) .1 .0, c .before .before .before .before .before .before .before .before .before .before .before .before .before .before .loop .inv .input-fits)
+
+add-at-2 : tie.Need-add-at-2 Inv-loop μ-loop
+add-at-2 c = omega (arith, more (c .before .before .before) .1 .0, c .before .before .before .before .before .before .before .before .before .before .before .before .before .before .loop .inv .input-fits)
+
+loop-less : tie.Need-loop-less Inv-loop μ-loop
+loop-less c = search needs
+
+loop-again : tie.Need-loop-again Inv-loop μ-loop
+loop-again c =
+    let n = more (c .before .before .before) in
+    let long = same-room (c .before .before .before .before .before .before .before .before .before .before .before .before .before .before .loop .inv) (c .before .before .before .before .before .before .before .before .before .before .before .before .apply .ensures) (λ i. c .before .before .before .before .before .before .before .before .before .before .before .before .before .shared-slice-known2 .given i .fits) (c .before .before .before .before .before .before .before .before .before .before .if1 .left) (laid (c .before .before .before .before .before .before .before .before .before .before .before .before .before .before .loop .answers) (c .before .before .before .before .before .before .before .before .put-pair .last .0) (_ ∷ _ ∷ []) _ (c .before .before .before .before .before .before .before .before .put-pair .ensures)) in
+    run-again (c .before .before .before .before .before .before .before .before .before .before .before .before .before .before .loop .inv) (c .before .before .before .before .before .before .before .before .before .before .before .before .apply .ensures) (λ i. c .before .before .before .before .before .before .before .before .before .before .before .before .before .shared-slice-known2 .given i .fits) (c .before .before .before .before .before .before .before .before .before .before .if1 .left) (laid (c .before .before .before .before .before .before .before .before .before .before .before .before .before .before .loop .answers) (c .before .before .before .before .before .before .before .before .put-pair .last .0) (_ ∷ _ ∷ []) _ (c .before .before .before .before .before .before .before .before .put-pair .ensures)) (n .0) (omega (arith, n .1 .0)) (omega (arith, n .1 .1, c .before .before .before .before .before .before .before .before .before .before .before .before .before .before .loop .inv .room, long)) long
+
+pub run-spec : {M : Type 1} → statement M
+run-spec =
+    tie.close
+    (tie.spec
+    Inv-loop
+    μ-loop
+    array-read-kind
+    array-read-a
+    array-read-b
+    loop-holds
+    shared-slice-read-apply
+    apply-requires
+    carrying-requires
+    hold-requires
+    report-requires
+    same-length
+    returns
+    sub-put-pair
+    part-put-pair-start
+    part-put-pair-end
+    put-pair-requires
+    add-done
+    add-written
+    add-at
+    sub-if2
+    sub-if2-2
+    between-requires
+    report-requires-2
+    same-length-2
+    returns-2
+    shared-slice-read-kind
+    add-a
+    shared-slice-read-a
+    add-b
+    shared-slice-read-b
+    add-at-2
+    loop-less
+    loop-again)

@@ -1,0 +1,101 @@
+// Whole records, one after another.
+ghost use mathlib.Core.Path.{_≡_};
+ghost use mathlib.Core.Bool.{true};
+ghost use mathlib.Core.List.{_∷_};
+ghost use Prim.Native.Nat.{_+_, _≤_, _<_};
+ghost use lib.ListN.{length, drop};
+ghost use Rattle.capture.specs.Reader.{rangesOf};
+ghost use Rattle.capture.specs.Loops.{waitsOf, carryingOf, betweenOf, Took, Full};
+use super::Fed;
+use super::Reader;
+use super::report;
+use super::taking;
+use device::Device;
+
+// The pair to the front of the room that is lent.
+fn put_pair(room: &mut [u8], first: u8, second: u8)
+    requires { ⌜ 2 ≤ length (now room) ⌝ }
+    ensures { λ _. ⌜ now (room .exit) ≡ first ∷ second ∷ drop 2 (now (room .entry)) ⌝ }
+{
+    room[0] = first;
+    room[1] = second;
+}
+
+// With so many records done, the device as it is then, and a record's first three bytes carried.
+fn carrying(s: Reader, done: u32, device: Device, kind: u8, a: u8, b: u8) -> Reader
+    ensures { λ r. ⌜ r ≡ carryingOf s done device kind a b ⌝ }
+{
+    let mut n = s;
+    n.done = done;
+    n.device = device;
+    n.carried = 3;
+    n.bytes = [kind, a, b];
+    n
+}
+
+// The same with none carried.
+fn between(s: Reader, done: u32, device: Device) -> Reader
+    ensures { λ r. ⌜ r ≡ betweenOf s done device ⌝ }
+{
+    let mut n = s;
+    n.done = done;
+    n.device = device;
+    n.carried = 0;
+    n.bytes = [0; 3];
+    n
+}
+
+// A record's fourth byte with no room for its answers: 3 or 4, else 7.
+pub(crate) fn no_room(s: Reader, c: u8, at: usize, written: usize) -> Fed
+    requires { ⌜ rangesOf s ≡ true ⌝ }
+    requires { ⌜ waitsOf s ≡ true ⌝ }
+    ensures { λ r. ⌜ Full s c at written r ⌝ }
+{
+    let q = s.bytes;
+    let code = record::code(record::decode(q[0], q[1], q[2], c));
+    if code == 0 {
+        return report(7, at, written, s);
+    }
+    report(code, at, written, taking::hold(s, code))
+}
+
+// From a record whose fourth byte is next, for as long as whole records follow: a code that ends the call, or 0.
+pub(crate) fn run(s: Reader, input: &[u8], from: usize, answers: &mut [u8], start: usize) -> Fed
+    requires { ⌜ rangesOf s ≡ true ⌝ }
+    requires { ⌜ waitsOf s ≡ true ⌝ }
+    requires { ⌜ from < length (now input) ⌝ }
+    requires { ⌜ start + 2 ≤ length (now answers) ⌝ }
+    ensures { λ r. ⌜ Took (now (input .entry)) (now (answers .entry)) s from start (now (answers .exit)) r ⌝ }
+{
+    let q = s.bytes;
+    let mut kind = q[0];
+    let mut a = q[1];
+    let mut b = q[2];
+    let mut device = s.device;
+    let mut done = s.done;
+    let mut at = from;
+    let mut written = start;
+    loop {
+        let t = record::apply(device, kind, a, b, input[at]);
+        if t.code != 0 {
+            return report(
+                t.code,
+                at,
+                written,
+                taking::hold(carrying(s, done, device, kind, a, b), t.code),
+            );
+        }
+        put_pair(&mut answers[written..], t.first, t.second);
+        device = t.device;
+        done = done + 1;
+        written = written + 2;
+        at = at + 1;
+        if (s.count <= done) | (input.len() - at < 4) | (answers.len() - written < 2) {
+            return report(0, at, written, between(s, done, device));
+        }
+        kind = input[at];
+        a = input[at + 1];
+        b = input[at + 2];
+        at = at + 3;
+    }
+}
