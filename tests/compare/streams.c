@@ -1,0 +1,1306 @@
+/* streams THEME: writes one stream of calls, in the format at the head of second/replay.c, to standard output.
+ *
+ *   device          steps from power-on and from random states within their ranges
+ *   device-ranges   devices with one field at or past an end of its range; every register, every address
+ *   reader          captures whole and damaged, cut at every place, in every room
+ *   reader-ranges   readers with one field at or past an end of its range
+ *   writer          the writers and the decoder
+ *   runs            whole captures, most of them long
+ *   listed          whole captures for the listing programs too
+ *
+ * The same bytes at each run. What it knows of the device serves to aim: it predicts no answer. */
+#include <stdbool.h>
+#include <stdint.h>
+#include <stdio.h>
+#include <stdlib.h>
+#include <string.h>
+
+enum { SETTINGS = 14, DEVICE_BYTES = 25, READER_BYTES = 39, HEADER_BYTES = 6, RECORD_BYTES = 4 };
+
+enum { WRITE = 1, READ, SEND, RECEIVE, CONVERSION, OPEN_DIODE, POWER_ON };
+
+/* Places of the settable bytes, by rising write address. */
+enum {
+    CONFIGURATION, RATE, LOCAL_HIGH, LOCAL_LOW, REMOTE_HIGH, REMOTE_LOW, OFFSET, OFFSET_FINE,
+    REMOTE_HIGH_FINE, REMOTE_LOW_FINE, REMOTE_CRIT, LOCAL_CRIT, HYSTERESIS, ALERT_MODE
+};
+
+static const uint8_t write_address[SETTINGS] = {
+    0x09, 0x0A, 0x0B, 0x0C, 0x0D, 0x0E, 0x11, 0x12, 0x13, 0x14, 0x19, 0x20, 0x21, 0xBF
+};
+static const uint8_t kept_bits[SETTINGS] = {
+    0xD5, 0xFF, 0xFF, 0xFF, 0xFF, 0xFF, 0xFF, 0xE0, 0xE0, 0xE0, 0xFF, 0xFF, 0x1F, 0x07
+};
+static const uint8_t readable[] = {
+    0x00, 0x01, 0x02, 0x03, 0x04, 0x05, 0x06, 0x07, 0x08, 0x10, 0x11, 0x12, 0x13, 0x14, 0x19, 0x20, 0x21, 0xBF, 0xFE, 0xFF
+};
+static const uint8_t only_writable[] = { 0x09, 0x0A, 0x0B, 0x0C, 0x0D, 0x0E, 0x0F };
+static const uint8_t outside[] = { 0x15, 0x18, 0x1A, 0x1F, 0x22, 0x30, 0x80, 0xB0, 0xBE, 0xC0, 0xFD };
+
+enum { ONE_SHOT = 0x0F, STATUS = 0x02, ALERT_RESPONSE = 0x0C };
+enum { ALERT_MASK = 0x80, STANDBY = 0x40, FAULT_QUEUE = 0x01, COMPARATOR = 0x01 };
+enum { REMOTE_LEAST = -1024, REMOTE_MOST = 1023 };
+
+/* Places in a device dump and in a reader dump. */
+enum { AT_VARIANT, AT_POINTER, AT_PENDING, AT_STATUS, AT_LOCAL, AT_REMOTE, AT_LIVE = 7, AT_FAULTS, AT_LOCAL_LATCH,
+       AT_REMOTE_LATCH, AT_SETTINGS };
+enum { AT_HEADER, AT_COUNT, AT_DONE = 5, AT_CARRIED = 9, AT_CARRY, AT_HELD = 13, AT_DEVICE };
+
+#define COUNT_OF(table) (sizeof(table) / sizeof((table)[0]))
+#define ONE_OF(table) ((table)[below(COUNT_OF(table))])
+
+/* ---- Chance ------------------------------------------------------------ */
+
+static uint64_t chance_state;
+
+static uint32_t chance(void)
+{
+    uint64_t mixed = chance_state += 0x9E3779B97F4A7C15u;
+    mixed = (mixed ^ mixed >> 30) * 0xBF58476D1CE4E5B9u;
+    mixed = (mixed ^ mixed >> 27) * 0x94D049BB133111EBu;
+    return (uint32_t)(mixed >> 32);
+}
+
+static uint32_t below(size_t bound)
+{
+    return (uint32_t)(chance() % bound);
+}
+
+static bool one_in(uint32_t bound)
+{
+    return below(bound) == 0;
+}
+
+static uint8_t any_byte(void)
+{
+    return (uint8_t)below(256);
+}
+
+/* ---- Output ------------------------------------------------------------ */
+
+static void put(const void *bytes, size_t length)
+{
+    if (length > 0 && fwrite(bytes, 1, length, stdout) != length) {
+        fprintf(stderr, "streams: cannot write standard output\n");
+        exit(1);
+    }
+}
+
+static void put_number(uint32_t number, unsigned length)
+{
+    while (length-- > 0) {
+        uint8_t byte = (uint8_t)(number >> 8 * length);
+        put(&byte, 1);
+    }
+}
+
+static void store(uint8_t *bytes, uint32_t number, unsigned length)
+{
+    while (length-- > 0)
+        *bytes++ = (uint8_t)(number >> 8 * length);
+}
+
+typedef struct {
+    uint8_t kind, a, b, c;
+} record;
+
+static void call_device(const uint8_t *dump)
+{
+    put("D", 1);
+    put(dump, DEVICE_BYTES);
+}
+
+static void call_step(record event)
+{
+    uint8_t bytes[] = { 'S', event.kind, event.a, event.b, event.c };
+    put(bytes, sizeof bytes);
+}
+
+static void call_reader(const uint8_t *dump)
+{
+    put("R", 1);
+    put(dump, READER_BYTES);
+}
+
+static void call_feed(const uint8_t *bytes, size_t length, uint32_t room)
+{
+    put("F", 1);
+    put_number((uint32_t)length, 2);
+    put_number(room, 2);
+    put(bytes, length);
+}
+
+static void call_finish(void)
+{
+    put("E", 1);
+}
+
+static void call_fresh(void)
+{
+    put("N", 1);
+}
+
+static void call_write_event(record event, uint32_t room)
+{
+    uint8_t bytes[] = { 'W', event.kind, event.a, event.b, event.c };
+    put(bytes, sizeof bytes);
+    put_number(room, 2);
+}
+
+static void call_write_header(uint8_t variant, uint32_t count, uint32_t room)
+{
+    put("H", 1);
+    put(&variant, 1);
+    put_number(count, 4);
+    put_number(room, 2);
+}
+
+static void call_decode(record bytes)
+{
+    uint8_t call[] = { 'B', bytes.kind, bytes.a, bytes.b, bytes.c };
+    put(call, sizeof call);
+}
+
+static void call_run(const uint8_t *capture, size_t length, uint32_t room)
+{
+    put("C", 1);
+    put_number((uint32_t)length, 4);
+    put_number(room, 4);
+    put(capture, length);
+}
+
+/* ---- The bench: what was set, and records planned ahead ----------------- */
+
+enum { PLAN_MOST = 32 };
+
+typedef struct {
+    uint8_t variant;
+    uint8_t set[SETTINGS];
+    record plan[PLAN_MOST];
+    unsigned planned;
+    unsigned played;
+} bench;
+
+static uint8_t own_address(const bench *b)
+{
+    return b->variant == 1 ? 0x4C : 0x4D;
+}
+
+static void power_on_settings(uint8_t *set, uint8_t variant)
+{
+    memset(set, 0, SETTINGS);
+    set[RATE] = 8;
+    set[LOCAL_HIGH] = 70;
+    set[REMOTE_HIGH] = 70;
+    set[REMOTE_CRIT] = 110;
+    set[LOCAL_CRIT] = variant == 3 ? 105 : 85;
+    set[HYSTERESIS] = 10;
+}
+
+static void plan(bench *b, uint8_t kind, uint8_t a, uint8_t second, uint8_t c)
+{
+    if (b->planned < PLAN_MOST)
+        b->plan[b->planned++] = (record){ kind, a, second, c };
+}
+
+static void plan_set(bench *b, unsigned place, uint8_t value)
+{
+    plan(b, WRITE, own_address(b), write_address[place], value);
+    b->set[place] = value & kept_bits[place];
+}
+
+static int degrees(uint8_t byte)
+{
+    return byte < 128 ? byte : byte - 256;
+}
+
+static int held(int value, int least, int most)
+{
+    return value < least ? least : value > most ? most : value;
+}
+
+static int eighths(const bench *b, unsigned high, unsigned fine)
+{
+    return degrees(b->set[high]) * 8 + b->set[fine] / 32;
+}
+
+/* A remote sample that with the offset gives this reading, where one does. */
+static void plan_readings(bench *b, uint8_t local, int reading)
+{
+    int sample = held(reading - eighths(b, OFFSET, OFFSET_FINE), REMOTE_LEAST, REMOTE_MOST);
+    unsigned bits = (unsigned)(sample + 2048);
+    plan(b, CONVERSION, local, (uint8_t)(bits / 8), (uint8_t)(bits % 8 * 32));
+}
+
+/* A reading at which something may change. */
+static int remote_line(const bench *b)
+{
+    int crit = degrees(b->set[REMOTE_CRIT]) * 8;
+    switch (below(8)) {
+    case 0: return REMOTE_LEAST;
+    case 1: return REMOTE_MOST;
+    case 2: return crit - 8 * b->set[HYSTERESIS];
+    case 3: case 4: return crit;
+    case 5: case 6: return eighths(b, REMOTE_HIGH, REMOTE_HIGH_FINE);
+    default: return eighths(b, REMOTE_LOW, REMOTE_LOW_FINE);
+    }
+}
+
+static uint8_t local_near(const bench *b)
+{
+    int crit = degrees(b->set[LOCAL_CRIT]);
+    int lines[] = { degrees(b->set[LOCAL_HIGH]), degrees(b->set[LOCAL_LOW]), crit, crit - b->set[HYSTERESIS] };
+    int line = ONE_OF(lines);
+    return (uint8_t)held(line + (int)below(3) - 1, -128, 127);
+}
+
+static int remote_near(const bench *b)
+{
+    int line = remote_line(b);
+    return line + (int)below(5) - 2;
+}
+
+static void plan_remote(bench *b, int reading)
+{
+    plan_readings(b, local_near(b), reading);
+}
+
+static uint8_t temperature_byte(void)
+{
+    static const uint8_t special[] = { 0x80, 0x81, 0xFF, 0x00, 0x01, 0x7E, 0x7F };
+    return one_in(2) ? ONE_OF(special) : any_byte();
+}
+
+static record any_conversion(void)
+{
+    record r = { CONVERSION, 0, 0, 0 };
+    r.a = temperature_byte();
+    r.b = temperature_byte();
+    r.c = (uint8_t)(32 * below(8));
+    return r;
+}
+
+/* ---- Scenes ------------------------------------------------------------ */
+
+static void scene_near(bench *b)
+{
+    unsigned times = 1 + below(3);
+    while (times-- > 0)
+        plan_remote(b, remote_near(b));
+}
+
+static void scene_any_limit(bench *b)
+{
+    static const uint8_t places[] = {
+        LOCAL_HIGH, LOCAL_LOW, REMOTE_HIGH, REMOTE_LOW, REMOTE_HIGH_FINE, REMOTE_LOW_FINE, REMOTE_CRIT, LOCAL_CRIT,
+        HYSTERESIS, RATE
+    };
+    uint8_t place = ONE_OF(places);
+    plan_set(b, place, temperature_byte());
+    scene_near(b);
+}
+
+/* Limits close together, low below high, so that a reading can be within them all. */
+static void scene_close_limits(bench *b)
+{
+    int low = (int)below(230) - 120;
+    int high = low + 1 + (int)below(4);
+    plan_set(b, REMOTE_LOW, (uint8_t)low);
+    plan_set(b, REMOTE_HIGH, (uint8_t)high);
+    plan_set(b, REMOTE_CRIT, (uint8_t)(high + (int)below(3)));
+    plan_set(b, REMOTE_HIGH_FINE, any_byte());
+    plan_set(b, REMOTE_LOW_FINE, any_byte());
+    plan_set(b, LOCAL_LOW, (uint8_t)low);
+    plan_set(b, LOCAL_HIGH, (uint8_t)high);
+    plan_set(b, LOCAL_CRIT, (uint8_t)(high + (int)below(3)));
+    plan_set(b, HYSTERESIS, (uint8_t)below(5));
+}
+
+/* One to four readings out of the limits by at most two eighths, then one within them. */
+static void scene_fault_run(bench *b)
+{
+    int high = eighths(b, REMOTE_HIGH, REMOTE_HIGH_FINE);
+    int low = eighths(b, REMOTE_LOW, REMOTE_LOW_FINE);
+    unsigned times = 1 + below(4);
+    if (one_in(2))
+        plan_set(b, CONFIGURATION, (uint8_t)(b->set[CONFIGURATION] ^ FAULT_QUEUE));
+    while (times-- > 0) {
+        int beyond = 1 + (int)below(2);
+        plan_remote(b, one_in(3) ? low - beyond : high + beyond);
+    }
+    plan_remote(b, one_in(2) ? high - (int)below(2) : low + (int)below(2));
+}
+
+/* Over both T_CRIT limits, between limit and limit minus hysteresis, then near their difference. */
+static void scene_critical(bench *b)
+{
+    int local = degrees(b->set[LOCAL_CRIT]);
+    int hysteresis = b->set[HYSTERESIS];
+    int remote = degrees(b->set[REMOTE_CRIT]) * 8;
+    unsigned times = one_in(2) ? 1 : 3;
+    while (times-- > 0)
+        plan_readings(b, (uint8_t)held(local + 1, -128, 127), remote + 1 + (int)below(2));
+    plan_readings(b, (uint8_t)local, remote - (int)below(2));
+    if (one_in(3))
+        plan(b, READ, own_address(b), STATUS, 0);
+    for (times = 0; times < 2; times++) {
+        int to = held(local - hysteresis - (int)below(2), -128, 127);
+        plan_readings(b, (uint8_t)to, remote - 8 * hysteresis + (int)below(5) - 2);
+    }
+}
+
+static void scene_status(bench *b)
+{
+    if (one_in(2))
+        plan_set(b, CONFIGURATION, b->set[CONFIGURATION] & (uint8_t)~ALERT_MASK);
+    scene_near(b);
+    if (one_in(2)) {
+        plan(b, READ, own_address(b), STATUS, 0);
+    } else {
+        plan(b, SEND, own_address(b), STATUS, 0);
+        plan(b, RECEIVE, own_address(b), 0, 0);
+    }
+    if (one_in(3))
+        plan(b, RECEIVE, own_address(b), 0, 0);
+    plan(b, READ, own_address(b), 0x03, 0);
+}
+
+static void scene_alert_response(bench *b)
+{
+    if (one_in(2))
+        plan_set(b, ALERT_MODE, b->set[ALERT_MODE] & (uint8_t)~COMPARATOR);
+    plan_set(b, CONFIGURATION, b->set[CONFIGURATION] & (uint8_t)~ALERT_MASK);
+    scene_near(b);
+    plan(b, RECEIVE, ALERT_RESPONSE, 0, 0);
+    if (one_in(2))
+        plan(b, RECEIVE, ALERT_RESPONSE, 0, 0);
+    if (one_in(2))
+        plan_set(b, CONFIGURATION, b->set[CONFIGURATION] & (uint8_t)~ALERT_MASK);
+}
+
+static void scene_alert_mode(bench *b)
+{
+    plan_set(b, ALERT_MODE, any_byte());
+    scene_near(b);
+    plan_set(b, ALERT_MODE, b->set[ALERT_MODE] ^ COMPARATOR);
+}
+
+static void scene_standby(bench *b)
+{
+    plan_set(b, CONFIGURATION, b->set[CONFIGURATION] | STANDBY);
+    if (one_in(2))
+        plan_remote(b, remote_near(b));
+    unsigned asked = below(3);
+    while (asked-- > 0)
+        plan(b, WRITE, own_address(b), ONE_SHOT, any_byte());
+    if (one_in(3))
+        plan_set(b, CONFIGURATION, (uint8_t)(any_byte() | STANDBY));
+    if (one_in(4))
+        plan_set(b, CONFIGURATION, b->set[CONFIGURATION] & (uint8_t)~STANDBY);
+    if (one_in(4))
+        plan_set(b, CONFIGURATION, b->set[CONFIGURATION] | STANDBY);
+    if (one_in(4))
+        plan(b, OPEN_DIODE, local_near(b), 0, 0);
+    scene_near(b);
+    if (one_in(2))
+        plan_set(b, CONFIGURATION, b->set[CONFIGURATION] & (uint8_t)~STANDBY);
+}
+
+static void scene_one_shot_awake(bench *b)
+{
+    plan_set(b, CONFIGURATION, b->set[CONFIGURATION] & (uint8_t)~STANDBY);
+    plan(b, WRITE, own_address(b), ONE_SHOT, any_byte());
+    plan_set(b, CONFIGURATION, b->set[CONFIGURATION] | STANDBY);
+    scene_near(b);
+    plan_set(b, CONFIGURATION, b->set[CONFIGURATION] & (uint8_t)~STANDBY);
+}
+
+static uint8_t any_register(void)
+{
+    switch (below(4)) {
+    case 0: return ONE_OF(only_writable);
+    case 1: return ONE_OF(outside);
+    default: return ONE_OF(readable);
+    }
+}
+
+static void scene_pointer(bench *b)
+{
+    unsigned times = 1 + below(3);
+    plan(b, SEND, own_address(b), any_register(), 0);
+    while (times-- > 0) {
+        uint8_t value = any_byte();
+        switch (below(4)) {
+        case 0: plan(b, READ, own_address(b), any_register(), 0); break;
+        case 1: plan(b, SEND, own_address(b), any_register(), 0); break;
+        case 2: plan(b, WRITE, own_address(b), ONE_OF(outside), value); break;
+        default: plan(b, WRITE, own_address(b), below(9), value); break;
+        }
+    }
+    plan(b, RECEIVE, own_address(b), 0, 0);
+}
+
+static void scene_other_address(bench *b)
+{
+    uint8_t others[] = { ALERT_RESPONSE, own_address(b) ^ 1, 0x00, 0x7F, own_address(b) ^ 0x40 };
+    uint8_t kind = (uint8_t)(WRITE + below(4));
+    uint8_t first = kind == RECEIVE ? 0 : any_register();
+    uint8_t value = kind == WRITE ? any_byte() : 0;
+    plan(b, kind, ONE_OF(others), first, value);
+    plan(b, RECEIVE, own_address(b), 0, 0);
+}
+
+/* An offset, and samples whose sum with it lies at or beyond an end of the eleven bits. */
+static void scene_offset(bench *b)
+{
+    plan_set(b, OFFSET, temperature_byte());
+    plan_set(b, OFFSET_FINE, any_byte());
+    for (unsigned i = 0; i < 2; i++) {
+        int end = one_in(2) ? REMOTE_MOST : REMOTE_LEAST;
+        plan_remote(b, end + (int)below(5) - 2);
+    }
+    record sample = any_conversion();
+    plan(b, sample.kind, sample.a, sample.b, sample.c);
+    plan(b, READ, own_address(b), one_in(2) ? 0x01 : 0x10, 0);
+    if (one_in(2))
+        plan_set(b, OFFSET, 0);
+}
+
+static void scene_open(bench *b)
+{
+    static const uint8_t around[] = { 126, 127, 0x80 };
+    if (one_in(3))
+        plan_set(b, REMOTE_HIGH, ONE_OF(around));
+    if (one_in(3))
+        plan_set(b, REMOTE_CRIT, ONE_OF(around));
+    plan(b, OPEN_DIODE, local_near(b), 0, 0);
+    if (one_in(2))
+        plan(b, OPEN_DIODE, local_near(b), 0, 0);
+    plan(b, READ, own_address(b), one_in(2) ? 0x01 : STATUS, 0);
+}
+
+static void scene_configuration(bench *b)
+{
+    uint8_t drop = one_in(4) ? 0 : STANDBY;
+    plan_set(b, CONFIGURATION, any_byte() & (uint8_t)~drop);
+    scene_near(b);
+}
+
+static void scene_read(bench *b)
+{
+    plan(b, READ, own_address(b), ONE_OF(readable), 0);
+}
+
+static void scene_write(bench *b)
+{
+    uint8_t value = one_in(3) ? 0xFF : any_byte();
+    plan_set(b, below(SETTINGS), value);
+}
+
+static void scene_power_on(bench *b)
+{
+    plan(b, POWER_ON, 0, 0, 0);
+    power_on_settings(b->set, b->variant);
+}
+
+static void plan_scene(bench *b)
+{
+    static void (*const scenes[])(bench *) = {
+        scene_near, scene_near, scene_any_limit, scene_close_limits, scene_fault_run, scene_fault_run, scene_critical,
+        scene_critical, scene_status, scene_alert_response, scene_alert_mode, scene_standby, scene_one_shot_awake,
+        scene_pointer, scene_other_address, scene_offset, scene_open, scene_configuration, scene_read, scene_write
+    };
+    b->planned = 0;
+    b->played = 0;
+    if (one_in(80))
+        scene_power_on(b);
+    else
+        ONE_OF(scenes)(b);
+}
+
+static record next_record(bench *b)
+{
+    while (b->played == b->planned)
+        plan_scene(b);
+    return b->plan[b->played++];
+}
+
+static void start(bench *b, uint8_t variant)
+{
+    memset(b, 0, sizeof *b);
+    b->variant = variant;
+    power_on_settings(b->set, variant);
+}
+
+/* ---- Devices ----------------------------------------------------------- */
+
+static void power_on_device(uint8_t *dump, uint8_t variant)
+{
+    memset(dump, 0, DEVICE_BYTES);
+    dump[AT_VARIANT] = variant;
+    power_on_settings(dump + AT_SETTINGS, variant);
+}
+
+/* Limits of one sort close to each other, at any place of the scale. */
+static void random_settings(uint8_t *set)
+{
+    uint8_t middle = temperature_byte();
+    for (unsigned i = 0; i < SETTINGS; i++)
+        set[i] = any_byte() & kept_bits[i];
+    for (unsigned i = LOCAL_HIGH; i <= REMOTE_LOW; i++)
+        if (!one_in(8))
+            set[i] = (uint8_t)(middle + below(4));
+    if (!one_in(8)) {
+        set[REMOTE_CRIT] = (uint8_t)(middle + below(4));
+        set[LOCAL_CRIT] = (uint8_t)(middle + below(4));
+    }
+    if (one_in(2))
+        set[OFFSET] = (uint8_t)(below(5) - 2);
+    if (one_in(2))
+        set[HYSTERESIS] = (uint8_t)below(3);
+    if (!one_in(4))
+        set[CONFIGURATION] &= (uint8_t)~STANDBY;
+}
+
+static void random_device(uint8_t *dump)
+{
+    int remote = (int)below(2048) + REMOTE_LEAST;
+    memset(dump, 0, DEVICE_BYTES);
+    dump[AT_VARIANT] = (uint8_t)(1 + below(3));
+    dump[AT_POINTER] = one_in(4) ? ONE_OF(only_writable) : ONE_OF(readable);
+    dump[AT_STATUS] = one_in(2) ? (uint8_t)(1u << below(7)) : any_byte() & 0x7F;
+    dump[AT_LOCAL] = any_byte();
+    store(dump + AT_REMOTE, (uint32_t)remote, 2);
+    dump[AT_LIVE] = one_in(2) ? (uint8_t)(1u << below(7)) : any_byte() & 0x7F;
+    if (one_in(4))
+        dump[AT_LIVE] = 0;
+    if (one_in(4))
+        dump[AT_STATUS] = 0;
+    dump[AT_FAULTS] = (uint8_t)below(4);
+    dump[AT_LOCAL_LATCH] = (uint8_t)below(2);
+    dump[AT_REMOTE_LATCH] = (uint8_t)below(2);
+    random_settings(dump + AT_SETTINGS);
+    if ((dump[AT_SETTINGS + CONFIGURATION] & STANDBY) != 0)
+        dump[AT_PENDING] = (uint8_t)below(2);
+}
+
+static void aim_at(bench *b, const uint8_t *dump)
+{
+    memset(b, 0, sizeof *b);
+    b->variant = dump[AT_VARIANT];
+    memcpy(b->set, dump + AT_SETTINGS, SETTINGS);
+}
+
+static bool has_operand(uint8_t kind, unsigned operand)
+{
+    static const uint8_t operands[] = { 0, 3, 2, 2, 1, 3, 1, 0 };
+    return operand < operands[kind];
+}
+
+/* Anything at all in the places of which an event has no operand. */
+static record with_unused(record event)
+{
+    if (!has_operand(event.kind, 0))
+        event.a = any_byte();
+    if (!has_operand(event.kind, 1))
+        event.b = any_byte();
+    if (!has_operand(event.kind, 2))
+        event.c = any_byte();
+    return event;
+}
+
+static record with_bad_operand(record event)
+{
+    if (event.kind <= RECEIVE)
+        event.a |= 0x80;
+    if (event.kind == CONVERSION)
+        event.c = (uint8_t)(event.c + 1 + below(31));
+    return event;
+}
+
+static void step(record event)
+{
+    if (one_in(8))
+        event = with_unused(event);
+    if (one_in(40))
+        call_step(with_bad_operand(event));
+    call_step(event);
+}
+
+static void theme_device(void)
+{
+    uint8_t dump[DEVICE_BYTES];
+    bench b;
+    for (unsigned sequence = 0; sequence < 120; sequence++) {
+        start(&b, (uint8_t)(1 + sequence % 3));
+        power_on_device(dump, b.variant);
+        call_device(dump);
+        for (unsigned i = 0; i < 500; i++)
+            step(next_record(&b));
+    }
+    for (unsigned i = 0; i < 24000; i++) {
+        random_device(dump);
+        call_device(dump);
+        aim_at(&b, dump);
+        for (unsigned steps = 1 + below(4); steps > 0; steps--)
+            step(next_record(&b));
+    }
+}
+
+/* ---- Ranges of a device ------------------------------------------------- */
+
+/* Hands a device dump with something changed to whatever takes it. */
+typedef void (*device_taker)(const uint8_t *dump);
+
+static void with_byte(const uint8_t *dump, unsigned place, uint8_t value, device_taker take)
+{
+    uint8_t changed[DEVICE_BYTES];
+    memcpy(changed, dump, DEVICE_BYTES);
+    changed[place] = value;
+    take(changed);
+}
+
+static void with_remote(const uint8_t *dump, int remote, device_taker take)
+{
+    uint8_t changed[DEVICE_BYTES];
+    memcpy(changed, dump, DEVICE_BYTES);
+    store(changed + AT_REMOTE, (uint32_t)remote, 2);
+    take(changed);
+}
+
+static void with_pending(const uint8_t *dump, device_taker take)
+{
+    uint8_t changed[DEVICE_BYTES];
+    memcpy(changed, dump, DEVICE_BYTES);
+    changed[AT_PENDING] = 1;
+    changed[AT_SETTINGS + CONFIGURATION] &= (uint8_t)~STANDBY;
+    take(changed);
+    changed[AT_SETTINGS + CONFIGURATION] |= STANDBY;
+    take(changed);
+}
+
+static void settings_edges(const uint8_t *dump, device_taker take)
+{
+    for (unsigned i = 0; i < SETTINGS; i++) {
+        unsigned place = AT_SETTINGS + i;
+        with_byte(dump, place, kept_bits[i], take);
+        with_byte(dump, place, 0, take);
+        for (unsigned bit = 0; bit < 8; bit++)
+            with_byte(dump, place, (uint8_t)(dump[place] ^ 1u << bit), take);
+    }
+}
+
+/* One field after the other at each end of its range, and past it. */
+static void device_edges(const uint8_t *dump, device_taker take)
+{
+    static const int remotes[] = { -32768, -1025, -1024, -1023, 1022, 1023, 1024, 32767 };
+    static const uint8_t variants[] = { 0, 1, 2, 3, 4, 255 };
+    static const uint8_t faults[] = { 0, 1, 2, 3, 4, 255 };
+    static const uint8_t statuses[] = { 0x00, 0x7F, 0x80, 0x81, 0xFF };
+    for (size_t i = 0; i < COUNT_OF(remotes); i++)
+        with_remote(dump, remotes[i], take);
+    for (size_t i = 0; i < COUNT_OF(variants); i++)
+        with_byte(dump, AT_VARIANT, variants[i], take);
+    for (size_t i = 0; i < COUNT_OF(faults); i++)
+        with_byte(dump, AT_FAULTS, faults[i], take);
+    for (size_t i = 0; i < COUNT_OF(statuses); i++) {
+        with_byte(dump, AT_STATUS, statuses[i], take);
+        with_byte(dump, AT_LIVE, statuses[i], take);
+    }
+    for (unsigned pointer = 0; pointer < 256; pointer++)
+        with_byte(dump, AT_POINTER, (uint8_t)pointer, take);
+    with_pending(dump, take);
+    settings_edges(dump, take);
+}
+
+/* Steps that would change and answer something, on a device that may be out of its ranges. */
+static void step_on(const uint8_t *dump)
+{
+    bench b;
+    call_device(dump);
+    aim_at(&b, dump);
+    call_step((record){ RECEIVE, own_address(&b), 0, 0 });
+    call_step(any_conversion());
+    if (one_in(8))
+        call_step((record){ READ, 0x80, 0, 0 });
+}
+
+static void every_register(const uint8_t *dump)
+{
+    bench b;
+    aim_at(&b, dump);
+    for (unsigned kind = WRITE; kind <= SEND; kind++)
+        for (unsigned address = 0; address < 256; address++) {
+            call_device(dump);
+            call_step((record){ (uint8_t)kind, own_address(&b), (uint8_t)address, any_byte() });
+            call_step((record){ RECEIVE, own_address(&b), 0, 0 });
+        }
+}
+
+static void every_address(const uint8_t *dump)
+{
+    for (unsigned kind = WRITE; kind <= RECEIVE; kind++)
+        for (unsigned address = 0; address < 256; address++) {
+            call_device(dump);
+            call_step((record){ (uint8_t)kind, (uint8_t)address, 0x19, any_byte() });
+        }
+}
+
+static void every_low_byte(const uint8_t *dump)
+{
+    for (unsigned low = 0; low < 256; low++) {
+        call_device(dump);
+        record r = any_conversion();
+        r.c = (uint8_t)low;
+        call_step(r);
+    }
+}
+
+static void theme_device_ranges(void)
+{
+    uint8_t dump[DEVICE_BYTES];
+    for (unsigned variant = 1; variant <= 3; variant++) {
+        power_on_device(dump, (uint8_t)variant);
+        device_edges(dump, step_on);
+        every_register(dump);
+        every_address(dump);
+    }
+    for (unsigned i = 0; i < 8; i++) {
+        random_device(dump);
+        device_edges(dump, step_on);
+        every_register(dump);
+        every_address(dump);
+        every_low_byte(dump);
+    }
+}
+
+/* ---- Captures ---------------------------------------------------------- */
+
+enum { CAPTURE_MOST = 1000000 };
+
+typedef struct {
+    uint8_t bytes[CAPTURE_MOST];
+    size_t length;
+    size_t records;
+    size_t refused; /* where the first byte that is refused for good stands; the length if there is none */
+} capture;
+
+static capture work;
+
+static void put_record(uint8_t *bytes, record r)
+{
+    bytes[0] = r.kind;
+    bytes[1] = r.a;
+    bytes[2] = r.b;
+    bytes[3] = r.c;
+}
+
+static record record_at(const uint8_t *bytes)
+{
+    return (record){ bytes[0], bytes[1], bytes[2], bytes[3] };
+}
+
+static void make_capture(capture *c, size_t records)
+{
+    bench b;
+    start(&b, (uint8_t)(1 + below(3)));
+    c->bytes[0] = 1;
+    c->bytes[1] = b.variant;
+    store(c->bytes + 2, (uint32_t)records, 4);
+    for (size_t i = 0; i < records; i++)
+        put_record(c->bytes + HEADER_BYTES + RECORD_BYTES * i, next_record(&b));
+    c->length = HEADER_BYTES + RECORD_BYTES * records;
+    c->records = records;
+    c->refused = c->length;
+}
+
+static uint8_t not_zero(void)
+{
+    static const uint8_t bits[] = { 1, 0x20, 0x80, 0xFF };
+    return one_in(2) ? ONE_OF(bits) : (uint8_t)(1 + below(255));
+}
+
+/* Breaks operand 0, 1 or 2 of a record, where the table of kinds lets it be broken. */
+static bool break_operand(record *r, unsigned operand)
+{
+    uint8_t *places[] = { &r->a, &r->b, &r->c };
+    if (operand == 0 && r->kind <= RECEIVE)
+        *places[0] |= 0x80;
+    else if (operand == 2 && r->kind == CONVERSION)
+        *places[2] = (uint8_t)(r->c + 1 + below(31));
+    else if (!has_operand(r->kind, operand))
+        *places[operand] = not_zero();
+    else
+        return false;
+    return true;
+}
+
+static void refuse_at(capture *c, size_t place)
+{
+    if (place < c->refused)
+        c->refused = place;
+}
+
+static void damage_header(capture *c, unsigned place)
+{
+    static const uint8_t counts[] = { 0, 2, 3, 0x80, 255 };
+    static const uint8_t variants[] = { 0, 4, 5, 0x81, 255 };
+    c->bytes[place] = place == 0 ? ONE_OF(counts) : ONE_OF(variants);
+    refuse_at(c, place);
+}
+
+static void damage_kind(capture *c, size_t index)
+{
+    static const uint8_t kinds[] = { 0, 8, 9, 0x80, 0x81, 0xFF };
+    uint8_t *bytes = c->bytes + HEADER_BYTES + RECORD_BYTES * index;
+    bytes[0] = ONE_OF(kinds);
+    if (one_in(2))
+        memset(bytes + 1, 0xFF, 3);
+    refuse_at(c, HEADER_BYTES + RECORD_BYTES * index + 3);
+}
+
+static void damage_operand(capture *c, size_t index)
+{
+    uint8_t *bytes = c->bytes + HEADER_BYTES + RECORD_BYTES * index;
+    static const record plain[] = {
+        { READ, 0x4C, 0, 0 }, { SEND, 0x4D, 2, 0 }, { RECEIVE, 0x0C, 0, 0 }, { OPEN_DIODE, 1, 0, 0 }, { POWER_ON, 0, 0, 0 }
+    };
+    bool replaced = bytes[0] < WRITE || bytes[0] > POWER_ON || one_in(2);
+    record r = replaced ? ONE_OF(plain) : record_at(bytes);
+    unsigned operand = below(3);
+    while (!break_operand(&r, operand))
+        operand = (operand + 1) % 3;
+    put_record(bytes, r);
+    refuse_at(c, HEADER_BYTES + RECORD_BYTES * index + 3);
+}
+
+static void add_extra(capture *c)
+{
+    size_t extra = 1 + below(5);
+    refuse_at(c, c->length);
+    for (size_t i = 0; i < extra; i++)
+        c->bytes[c->length++] = one_in(2) ? (uint8_t)(1 + below(7)) : any_byte();
+}
+
+static void cut_short(capture *c)
+{
+    c->length = below(c->length);
+    refuse_at(c, c->length);
+}
+
+/* One damage of every sort in turn, 0 being none. */
+enum { DAMAGES = 8 };
+
+static void damage(capture *c, unsigned sort)
+{
+    size_t index = c->records > 0 ? below(c->records) : 0;
+    switch (sort) {
+    case 1: damage_header(c, 0); break;
+    case 2: damage_header(c, 1); break;
+    case 3: if (c->records > 0) damage_kind(c, index); break;
+    case 4: if (c->records > 0) damage_operand(c, index); break;
+    case 5: add_extra(c); break;
+    case 6: cut_short(c); break;
+    case 7: store(c->bytes + 2, (uint32_t)c->records + 1 + (one_in(2) ? 0 : chance() / 2), 4); break;
+    default: break;
+    }
+}
+
+/* ---- The reader -------------------------------------------------------- */
+
+static uint32_t any_room(void)
+{
+    return one_in(4) ? 6 + below(100) : below(6);
+}
+
+/* How many of these bytes a feed takes. */
+static size_t taken(const capture *c, size_t from, size_t length, uint32_t room)
+{
+    size_t at = from;
+    while (at < from + length && at < c->refused) {
+        if (at >= HEADER_BYTES && (at - HEADER_BYTES) % RECORD_BYTES == 3) {
+            if (room < 2)
+                break;
+            room -= 2;
+        }
+        at++;
+    }
+    return at - from;
+}
+
+static void after_refusal(const capture *c, size_t at)
+{
+    call_finish();
+    call_feed(NULL, 0, any_room());
+    call_feed(c->bytes + at, c->length - at, any_room());
+    if (one_in(2))
+        call_finish();
+}
+
+static void after_no_room(const capture *c, size_t at)
+{
+    if (one_in(3))
+        call_finish();
+    if (one_in(3))
+        call_feed(NULL, 0, any_room());
+    if (one_in(3))
+        call_feed(c->bytes + at, 1, below(2));
+}
+
+static void feed_in_parts(const capture *c, size_t part_most)
+{
+    size_t at = 0;
+    call_fresh();
+    while (at < c->length) {
+        size_t part = 1 + below(part_most);
+        uint32_t room = any_room();
+        if (part > c->length - at)
+            part = c->length - at;
+        call_feed(c->bytes + at, part, room);
+        size_t took = taken(c, at, part, room);
+        at += took;
+        if (took == part)
+            continue;
+        if (at == c->refused) {
+            after_refusal(c, at);
+            break;
+        }
+        after_no_room(c, at);
+    }
+    call_finish();
+}
+
+static void feed_cut_everywhere(const capture *c)
+{
+    for (size_t cut = 0; cut <= c->length; cut++) {
+        uint32_t room = one_in(2) ? any_room() : 1000;
+        call_fresh();
+        call_feed(c->bytes, cut, 1000);
+        if (one_in(4))
+            call_finish();
+        size_t took = taken(c, 0, cut, 1000);
+        call_feed(c->bytes + took, c->length - took, room);
+        call_finish();
+    }
+}
+
+/* A record without room, then another fourth byte in its place. */
+static void feed_other_fourth(const capture *c)
+{
+    uint32_t room = below(6);
+    size_t took = taken(c, 0, c->length, room);
+    call_fresh();
+    call_feed(c->bytes, c->length, room);
+    if (took < c->refused) {
+        uint8_t other = one_in(2) ? (uint8_t)(c->bytes[took] + 1) : any_byte();
+        call_feed(&other, 1, any_room());
+    }
+    call_finish();
+}
+
+/* A reader within its ranges, somewhere in a capture whose bytes stand in `work`. */
+static void random_reader(uint8_t *dump)
+{
+    unsigned header = one_in(3) ? below(7) : HEADER_BYTES;
+    uint32_t count = one_in(8) ? chance() : below(6);
+    make_capture(&work, 6);
+    damage(&work, one_in(3) ? 3 + below(4) : 0);
+    memset(dump, 0, READER_BYTES);
+    dump[AT_HEADER] = (uint8_t)header;
+    random_device(dump + AT_DEVICE);
+    if (header < 2 && one_in(2))
+        dump[AT_DEVICE + AT_VARIANT] = any_byte();
+    if (header > 2)
+        store(dump + AT_COUNT, header == HEADER_BYTES ? count : count & (0xFFFFFFu >> 8 * (5 - header)), 4);
+    if (header == HEADER_BYTES) {
+        uint32_t left = count > 0 ? below(count < 5 ? count + 1 : 5) : 0;
+        unsigned carried = left > 0 ? below(4) : 0;
+        store(dump + AT_DONE, count - left, 4);
+        dump[AT_CARRIED] = (uint8_t)carried;
+        memcpy(dump + AT_CARRY, work.bytes + HEADER_BYTES, carried);
+    }
+    if (one_in(10))
+        dump[AT_HELD] = (uint8_t)below(6);
+}
+
+static void feed_random_reader(void)
+{
+    uint8_t dump[READER_BYTES];
+    random_reader(dump);
+    size_t from = (size_t)dump[AT_HEADER] + dump[AT_CARRIED];
+    size_t length = from < work.length ? below(work.length - from + 1) : 0;
+    call_reader(dump);
+    call_feed(work.bytes + from, length, any_room());
+    if (one_in(2))
+        call_finish();
+}
+
+static void theme_reader(void)
+{
+    for (unsigned i = 0; i < 160; i++) {
+        make_capture(&work, i % 7);
+        damage(&work, i / 7 % DAMAGES);
+        feed_cut_everywhere(&work);
+    }
+    for (unsigned i = 0; i < 2400; i++) {
+        make_capture(&work, below(12));
+        damage(&work, one_in(2) ? below(DAMAGES) : 0);
+        if (one_in(6))
+            damage(&work, 3 + below(2));
+        feed_in_parts(&work, one_in(3) ? 1 : one_in(2) ? 5 : 60);
+    }
+    for (unsigned i = 0; i < 600; i++) {
+        make_capture(&work, 1 + below(4));
+        feed_other_fourth(&work);
+    }
+    for (unsigned i = 0; i < 12000; i++)
+        feed_random_reader();
+}
+
+/* ---- Ranges of a reader ------------------------------------------------- */
+
+static void try_reader(const uint8_t *dump)
+{
+    static const uint8_t bytes[] = { 1, 1, 0, 0, 0, 2, READ, 0x4C, 0xFF, 0, RECEIVE, 0x4D, 0, 0 };
+    size_t from = one_in(2) ? HEADER_BYTES : 0;
+    call_reader(dump);
+    call_finish();
+    call_feed(NULL, 0, 3);
+    call_feed(bytes + from, sizeof bytes - from, 4);
+    call_finish();
+}
+
+/* A reader with so many header bytes taken, this count and these records done. */
+static void plain_reader(uint8_t *dump, unsigned header, uint32_t count, uint32_t done)
+{
+    memset(dump, 0, READER_BYTES);
+    dump[AT_HEADER] = (uint8_t)header;
+    store(dump + AT_COUNT, count, 4);
+    store(dump + AT_DONE, done, 4);
+    if (header >= 2)
+        power_on_device(dump + AT_DEVICE, 1);
+}
+
+static uint8_t framed[READER_BYTES];
+
+static void try_framed(const uint8_t *device)
+{
+    memcpy(framed + AT_DEVICE, device, DEVICE_BYTES);
+    try_reader(framed);
+}
+
+static void header_edges(unsigned header)
+{
+    static const uint8_t variants[] = { 0, 1, 2, 3, 4, 255 };
+    static const uint8_t helds[] = { 0, 1, 2, 3, 4, 5, 6, 7, 255 };
+    uint8_t dump[READER_BYTES];
+    plain_reader(dump, header, 0, 0);
+    power_on_device(dump + AT_DEVICE, 3);
+    try_reader(dump);
+    for (size_t i = 0; i < COUNT_OF(helds); i++) {
+        dump[AT_HELD] = helds[i];
+        try_reader(dump);
+    }
+    dump[AT_HELD] = 0;
+    for (size_t i = 0; i < COUNT_OF(variants); i++) {
+        dump[AT_DEVICE + AT_VARIANT] = variants[i];
+        try_reader(dump);
+    }
+}
+
+static void count_edges(unsigned header)
+{
+    uint32_t past = header > 2 ? (uint32_t)1 << 8 * (header - 2) : 1;
+    uint32_t counts[] = { past - 1, past, past + 1, 0x80000000u, 0xFFFFFFFFu };
+    uint8_t dump[READER_BYTES];
+    for (size_t i = 0; i < COUNT_OF(counts); i++) {
+        plain_reader(dump, header, counts[i], 0);
+        try_reader(dump);
+    }
+    plain_reader(dump, header, header > 2 ? 9 : 0, 1);
+    try_reader(dump);
+    for (unsigned carried = 1; carried <= 4; carried++) {
+        plain_reader(dump, header, 0, 0);
+        dump[AT_CARRIED] = (uint8_t)carried;
+        try_reader(dump);
+    }
+}
+
+static void done_edges(void)
+{
+    static const uint32_t counts[] = { 0, 1, 2, 255, 256, 65536, 0x01000000, 0x80000000u, 0xFFFFFFFEu, 0xFFFFFFFFu };
+    uint8_t dump[READER_BYTES];
+    for (size_t i = 0; i < COUNT_OF(counts); i++) {
+        uint32_t dones[] = { 0, counts[i] - 1, counts[i], counts[i] + 1, 0xFFFFFFFFu };
+        for (size_t j = 0; j < COUNT_OF(dones); j++) {
+            plain_reader(dump, HEADER_BYTES, counts[i], dones[j]);
+            try_reader(dump);
+        }
+    }
+}
+
+/* Every number of carried bytes, with every set of places in use. */
+static void carry_edges(uint32_t count, uint32_t done)
+{
+    static const uint8_t carrieds[] = { 0, 1, 2, 3, 4, 255 };
+    uint8_t dump[READER_BYTES];
+    for (size_t i = 0; i < COUNT_OF(carrieds); i++)
+        for (unsigned used = 0; used < 8; used++) {
+            plain_reader(dump, HEADER_BYTES, count, done);
+            dump[AT_CARRIED] = carrieds[i];
+            dump[AT_CARRY] = used & 1 ? SEND : 0;
+            dump[AT_CARRY + 1] = used & 2 ? 0x4C : 0;
+            dump[AT_CARRY + 2] = used & 4 ? STATUS : 0;
+            try_reader(dump);
+        }
+}
+
+static void theme_reader_ranges(void)
+{
+    uint8_t device[DEVICE_BYTES];
+    for (unsigned header = 0; header <= 8; header++)
+        header_edges(header);
+    header_edges(255);
+    for (unsigned header = 0; header < HEADER_BYTES; header++)
+        count_edges(header);
+    done_edges();
+    carry_edges(3, 1);
+    carry_edges(3, 3);
+    carry_edges(0xFFFFFFFFu, 0xFFFFFFFEu);
+    for (unsigned header = 0; header <= HEADER_BYTES; header += 2) {
+        plain_reader(framed, header, 0, 0);
+        if (header == HEADER_BYTES)
+            plain_reader(framed, header, 5, 2);
+        random_device(device);
+        device_edges(device, try_framed);
+    }
+}
+
+/* ---- The writers and the decoder ---------------------------------------- */
+
+static record plain_record(uint8_t kind)
+{
+    record r = kind == CONVERSION ? any_conversion() : (record){ kind, 0, 0, 0 };
+    if (kind >= WRITE && kind <= RECEIVE)
+        r.a = below(128);
+    if (kind >= WRITE && kind <= SEND)
+        r.b = any_byte();
+    if (kind == WRITE)
+        r.c = any_byte();
+    if (kind == OPEN_DIODE)
+        r.a = any_byte();
+    return r;
+}
+
+/* Every value of each byte of a record, the others being right. */
+static void every_operand(uint8_t kind, void (*take)(record))
+{
+    for (unsigned value = 0; value < 256; value++) {
+        record r = plain_record(kind);
+        r.a = (uint8_t)value;
+        take(r);
+        r = plain_record(kind);
+        r.b = (uint8_t)value;
+        take(r);
+        r = plain_record(kind);
+        r.c = (uint8_t)value;
+        take(r);
+    }
+}
+
+static void write_in_any_room(record r)
+{
+    call_write_event(r, any_room());
+}
+
+static void any_bytes(record *r)
+{
+    r->a = any_byte();
+    r->b = any_byte();
+    r->c = any_byte();
+}
+
+static void theme_writer(void)
+{
+    static const uint32_t counts[] = { 0, 1, 255, 256, 65535, 65536, 0xFFFFFF, 0x1000000, 0x12345678, 0xFFFFFFFFu };
+    for (unsigned kind = 0; kind < 256; kind++) {
+        record r = plain_record((uint8_t)kind);
+        call_decode(r);
+        any_bytes(&r);
+        call_decode(r);
+    }
+    for (unsigned kind = 0; kind <= 8; kind++)
+        every_operand((uint8_t)kind, call_decode);
+    for (unsigned kind = WRITE; kind <= POWER_ON; kind++) {
+        every_operand((uint8_t)kind, write_in_any_room);
+        for (uint32_t room = 0; room < 8; room++)
+            call_write_event(plain_record((uint8_t)kind), room);
+    }
+    for (unsigned i = 0; i < 4000; i++) {
+        record r = { (uint8_t)(1 + below(7)), 0, 0, 0 };
+        any_bytes(&r);
+        call_decode(r);
+        call_write_event(r, any_room());
+    }
+    for (unsigned variant = 0; variant < 256; variant++)
+        for (uint32_t room = 0; room < 9; room++)
+            call_write_header((uint8_t)variant, one_in(2) ? ONE_OF(counts) : chance(), room == 8 ? 300 : room);
+}
+
+/* ---- Whole captures ------------------------------------------------------ */
+
+static void theme_runs(void)
+{
+    call_run(NULL, 0, 0);
+    call_run(NULL, 0, 5);
+    for (unsigned i = 0; i < 6000; i++) {
+        make_capture(&work, below(9));
+        damage(&work, one_in(3) ? below(DAMAGES) : i % DAMAGES);
+        if (one_in(6))
+            damage(&work, 3 + below(2));
+        call_run(work.bytes, work.length, any_room());
+    }
+    for (unsigned i = 0; i < 330; i++) {
+        make_capture(&work, 2000 + below(2000));
+        damage(&work, one_in(10) ? below(DAMAGES) : 0);
+        uint32_t room = 2 * (uint32_t)work.records;
+        call_run(work.bytes, work.length, one_in(8) ? room - 1 - below(9) : room + below(3));
+    }
+    make_capture(&work, 100000);
+    call_run(work.bytes, work.length, 200000);
+}
+
+static void theme_listed(void)
+{
+    for (unsigned i = 0; i < 6 * DAMAGES; i++) {
+        make_capture(&work, i < DAMAGES ? below(2) : below(40));
+        damage(&work, i % DAMAGES);
+        call_run(work.bytes, work.length, 2 * (uint32_t)work.records);
+    }
+    make_capture(&work, 20000);
+    call_run(work.bytes, work.length, 40000);
+}
+
+int main(int argc, char **argv)
+{
+    static const struct {
+        const char *name;
+        void (*write)(void);
+    } themes[] = {
+        { "device", theme_device },           { "device-ranges", theme_device_ranges }, { "reader", theme_reader },
+        { "reader-ranges", theme_reader_ranges }, { "writer", theme_writer },           { "runs", theme_runs },
+        { "listed", theme_listed }
+    };
+    for (size_t i = 0; argc == 2 && i < COUNT_OF(themes); i++) {
+        if (strcmp(argv[1], themes[i].name) != 0)
+            continue;
+        chance_state = 8900 + i;
+        themes[i].write();
+        return fflush(stdout) == 0 ? 0 : 1;
+    }
+    fprintf(stderr, "streams: give one theme:");
+    for (size_t i = 0; i < COUNT_OF(themes); i++)
+        fprintf(stderr, " %s", themes[i].name);
+    fprintf(stderr, "\n");
+    return 1;
+}
