@@ -1,0 +1,158 @@
+"""Streams of calls and their results, taken apart and put in words. The format stands at the head of second/replay.c."""
+
+DEVICE_BYTES = 25
+READER_BYTES = 39
+HEADER_BYTES = 6
+RECORD_BYTES = 4
+
+NAMES = {
+    "N": "fresh reader", "R": "set the reader", "F": "feed", "E": "finish", "D": "set the device",
+    "S": "step", "W": "write event", "H": "write header", "B": "decode", "C": "run",
+}
+KINDS = {1: "write", 2: "read", 3: "send", 4: "receive", 5: "conversion", 6: "conversion, diode open", 7: "power-on"}
+DEVICE_FIELDS = [
+    ("variant", 1), ("pointer", 1), ("one-shot pending", 1), ("status", 1), ("local reading", 1), ("remote reading", 2),
+    ("live byte", 1), ("fault count", 1), ("local latch", 1), ("remote latch", 1), ("configuration 09", 1), ("rate 0A", 1),
+    ("local high 0B", 1), ("local low 0C", 1), ("remote high 0D", 1), ("remote low 0E", 1), ("offset 11", 1), ("offset 12", 1),
+    ("remote high 13", 1), ("remote low 14", 1), ("remote T_CRIT 19", 1), ("local T_CRIT 20", 1), ("hysteresis 21", 1),
+    ("filter and alert BF", 1),
+]
+READER_FIELDS = [
+    ("header bytes taken", 1), ("record count", 4), ("records done", 4), ("record bytes carried", 1), ("carried bytes", 3),
+    ("held code", 1),
+] + DEVICE_FIELDS
+FIXED_CALLS = {78: 1, 82: 1 + READER_BYTES, 69: 1, 68: 1 + DEVICE_BYTES, 83: 5, 87: 7, 72: 8, 66: 5}
+FIXED_RESULTS = {78: 1, 82: 1, 69: 2, 68: 1, 83: 4 + DEVICE_BYTES, 66: 6}
+
+
+def number(some_bytes):
+    return int.from_bytes(some_bytes, "big")
+
+
+def call_length(stream, at):
+    """The bytes of the call that begins there."""
+    command = stream[at]
+    if command == 70:  # F
+        return 5 + number(stream[at + 1 : at + 3])
+    if command == 67:  # C
+        return 9 + number(stream[at + 1 : at + 5])
+    return FIXED_CALLS[command]
+
+
+def room(call):
+    """The room that a call lends; 0 where it lends none."""
+    places = {70: (3, 5), 87: (5, 7), 72: (6, 8), 67: (5, 9)}
+    if call[0] not in places:
+        return 0
+    first, last = places[call[0]]
+    return number(call[first:last])
+
+
+def result_length(call):
+    """The bytes of a call's result."""
+    command = call[0]
+    if command == 70:
+        return 10 + room(call) + READER_BYTES
+    if command == 67:
+        return 9 + room(call)
+    if command in (87, 72):
+        return 2 + room(call)
+    return FIXED_RESULTS[command]
+
+
+def split(stream):
+    """The calls of a stream."""
+    calls = []
+    at = 0
+    while at < len(stream):
+        end = at + call_length(stream, at)
+        calls.append(stream[at:end])
+        at = end
+    return calls
+
+
+def split_results(calls, results):
+    """A result for each call; where a program stopped early the last ones are short or empty."""
+    parts = []
+    at = 0
+    for call in calls:
+        end = at + result_length(call)
+        parts.append(results[at:end])
+        at = end
+    return parts
+
+
+def join(calls):
+    return b"".join(calls)
+
+
+def feed_call(part, lent):
+    return b"F" + len(part).to_bytes(2, "big") + lent.to_bytes(2, "big") + part
+
+
+def run_call(capture, lent):
+    return b"C" + len(capture).to_bytes(4, "big") + lent.to_bytes(4, "big") + capture
+
+
+def feed_part(call):
+    return call[5:]
+
+
+def run_capture(call):
+    return call[9:]
+
+
+def hexed(some_bytes, most=64):
+    """Hex text, cut after so many bytes."""
+    text = some_bytes[:most].hex(" ").upper()
+    return text + (f" .. ({len(some_bytes)} bytes)" if len(some_bytes) > most else "")
+
+
+def fields(layout, dump):
+    """(name, bytes) of each field of a dump."""
+    parts = []
+    at = 0
+    for name, length in layout:
+        parts.append((name, dump[at : at + length]))
+        at += length
+    return parts
+
+
+def event_words(record):
+    kind = record[0]
+    return f"kind {kind} ({KINDS.get(kind, 'unknown')}), a {record[1]:02X}, b {record[2]:02X}, c {record[3]:02X}"
+
+
+def call_words(call):
+    """A call in one line."""
+    command = chr(call[0])
+    told = {
+        "R": lambda: ", ".join(f"{n} {v.hex().upper()}" for n, v in fields(READER_FIELDS, call[1:])),
+        "D": lambda: ", ".join(f"{n} {v.hex().upper()}" for n, v in fields(DEVICE_FIELDS, call[1:])),
+        "F": lambda: f"room {room(call)}, {len(feed_part(call))} bytes: {hexed(feed_part(call))}",
+        "S": lambda: event_words(call[1:5]),
+        "W": lambda: f"{event_words(call[1:5])}, room {room(call)}",
+        "H": lambda: f"variant {call[1]}, count {number(call[2:6])}, room {room(call)}",
+        "B": lambda: hexed(call[1:]),
+        "C": lambda: f"room {room(call)}, {len(run_capture(call))} bytes: {hexed(run_capture(call))}",
+    }
+    return f"{NAMES[command]}: {told[command]()}" if command in told else NAMES[command]
+
+
+def result_fields(call, result):
+    """(name, bytes) of each part of a result."""
+    command = chr(call[0])
+    lent = room(call)
+    if command == "F":
+        head = [("command", 1), ("code", 1), ("consumed", 4), ("written", 4), ("room", lent)]
+        return fields(head + READER_FIELDS, result)
+    if command == "S":
+        return fields([("command", 1), ("code", 1), ("first answer", 1), ("second answer", 1)] + DEVICE_FIELDS, result)
+    layouts = {
+        "E": [("command", 1), ("code", 1)],
+        "W": [("command", 1), ("code", 1), ("room", lent)],
+        "H": [("command", 1), ("code", 1), ("room", lent)],
+        "B": [("command", 1), ("code", 1), ("kind", 1), ("a", 1), ("b", 1), ("c", 1)],
+        "C": [("command", 1), ("result", 8), ("room", lent)],
+    }
+    return fields(layouts.get(command, [("command", 1)]), result)
