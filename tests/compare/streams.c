@@ -1228,6 +1228,7 @@ static void theme_writer(void)
         call_decode(r);
         any_bytes(&r);
         call_decode(r);
+        call_decode((record){ (uint8_t)kind, 0xFF, 0xFF, 0xFF });
     }
     for (unsigned kind = 0; kind <= 8; kind++)
         every_operand((uint8_t)kind, call_decode);

@@ -1,0 +1,89 @@
+#!/usr/bin/env bash
+# The second program held to the proved one, call for call: streams of calls with fixed seeds (tests/compare/streams.c) go through
+# second/replay.c and through the replay program over the model, and what both write is compared byte for byte; the streams of
+# steps and whole captures also go through the C library, and captures through both listing programs. Prints what was covered and the
+# lines of second/second.c that were not reached; exits non-zero at the first failure. Needs what tests/bench.sh leaves in
+# build/. All its files are in build/compare. With REPLAY=COMMAND in the environment that command stands for the replay program.
+set -euo pipefail
+cd "$(dirname "$0")/.."
+source scripts/machine.sh
+
+here=build/compare
+strict=(-std=c11 -O2 -Wall -Wextra -Werror -pedantic)
+both=(device device-ranges runs listed)
+all=("${both[@]}" reader reader-ranges writer)
+lines_least=99
+export PYTHONPYCACHEPREFIX=$here/pycache
+
+stop() {
+    printf 'compare: %s\n' "$*" >&2
+    exit 1
+}
+
+# A command for a program for x86-64, as one word.
+command_of() {
+    if [ "$machine" = x86_64 ]; then
+        printf '%q' "$1"
+    else
+        printf '%q ' "${emulator[@]}" "$1"
+    fi
+}
+
+# The replay program over the model.
+model() {
+    if [ -n "${REPLAY:-}" ]; then
+        printf '%s' "$REPLAY"
+    elif [ -x build/bin/replay ]; then
+        printf 'build/bin/replay'
+    elif [ -x target/bin/replay ]; then
+        command_of target/bin/replay
+    fi
+}
+
+streams_of() {
+    printf "$here/%s.stream " "$@"
+}
+
+make_programs() {
+    cc "${strict[@]}" -o "$here/streams" tests/compare/streams.c
+    cc "${strict[@]}" -o "$here/second" second/second.c second/replay.c
+    cc "${strict[@]}" -o "$here/second-listing" second/second.c second/listing.c
+    compile_link "$here/library" tests/compare/library.c || stop "tests/compare/library.c does not compile or link, see above"
+    for theme in "${all[@]}"; do
+        "$here/streams" "$theme" >"$here/$theme.stream" || stop "the stream $theme could not be written"
+    done
+}
+
+# The lines of second/second.c that these streams and listings reach.
+measure_lines() {
+    rm -f "$here"/measured.*
+    gcc -std=c11 -O0 --coverage -c -o "$here/measured.o" second/second.c
+    gcc -std=c11 --coverage -o "$here/measured-replay" "$here/measured.o" second/replay.c -Isecond
+    gcc -std=c11 --coverage -o "$here/measured-listing" "$here/measured.o" second/listing.c -Isecond
+    for theme in "${all[@]}"; do
+        "$here/measured-replay" <"$here/$theme.stream" | cmp - "$here/$theme.stream.results" || stop "$theme: second disagrees with itself"
+    done
+    python3 tests/compare/listings.py "$here/second-listing" "$here/measured-listing" "$here/listed.stream"
+    gcov --stdout --object-file "$here/measured.o" second/second.c >"$here/second.c.gcov" 2>"$here/gcov.log" || {
+        cat "$here/gcov.log"
+        stop "gcov failed, see above"
+    }
+    awk -F: -v least="$lines_least" '
+        $1 !~ /-/ && $2 + 0 > 0 { lines++ }
+        $1 ~ /#####/ { missed++; print "second/second.c:" $2 + 0 ": not reached:" substr($0, index($0, $3)) }
+        END {
+            percent = lines ? 100 * (lines - missed) / lines : 0
+            printf "lines: %d of %d lines of second/second.c reached, %.2f percent\n", lines - missed, lines, percent
+            exit percent < least
+        }' "$here/second.c.gcov" || stop "less than $lines_least percent of the lines of second/second.c reached"
+}
+
+replay=$(model)
+[ -n "$replay" ] || stop "no replay program over the model in build/bin or target/bin: run scripts/build.sh"
+mkdir -p "$here"
+make_programs
+python3 tests/compare/compare.py "$here/second" "$replay" $(streams_of "${all[@]}") || stop "the replay program disagrees, see above"
+python3 tests/compare/compare.py "$here/second" "$(command_of "$here/library")" $(streams_of "${both[@]}") || stop "the library disagrees, see above"
+python3 tests/compare/listings.py "$here/second-listing" build/bin/lm89-listing "$here/listed.stream" || stop "the listing program disagrees, see above"
+python3 tests/compare/covered.py $(streams_of "${all[@]}") || stop "something never occurred, see above"
+measure_lines

@@ -1,0 +1,310 @@
+#!/usr/bin/env python3
+"""covered.py STREAM...: counts what streams of calls and their results (STREAM.results) covered, and prints a table.
+
+Fails, naming it, if anything of the table never occurred, or below 200,000 calls or 1,000,000 records. A record is one that was
+answered: by a step, a feed or a run. What happened is decided from the stream and from the results, which both sides share.
+"""
+import pathlib
+import sys
+
+import calls
+import ranges
+import steps
+from table import Table
+
+CALLS_LEAST = 200_000
+RECORDS_LEAST = 1_000_000
+
+CODES = {
+    "feed": (0, 1, 2, 3, 4, 5, 7, 8), "finish": (0, 1, 2, 3, 4, 5, 6, 8), "step": (0, 4, 8), "write event": (0, 4, 7),
+    "write header": (0, 2, 7), "decode": (0, 3, 4), "run": (0, 1, 2, 3, 4, 5, 6, 7),
+}
+# The operands of each kind that the table of kinds restricts, and those that only a record restricts.
+RESTRICTED = {1: "a", 2: "ac", 3: "ac", 4: "abc", 5: "c", 6: "bc", 7: "abc"}
+RESTRICTED_IN_EVENTS = {1: "a", 2: "a", 3: "a", 4: "a", 5: "c"}
+
+
+def broken_operands(record, restricted):
+    """The operands of a record that break the table of kinds."""
+    kind = record[0]
+    broken = ""
+    for operand in restricted.get(kind, ""):
+        value = record["abc".index(operand) + 1]
+        address = operand == "a" and kind <= 4
+        bad = value & 0x80 if address else value % 32 if kind == 5 else value
+        broken += operand if bad else ""
+    return broken
+
+
+def need_everything(table):
+    for name in calls.NAMES.values():
+        table.need(f"call: {name}")
+    for call, codes in CODES.items():
+        for code in codes:
+            table.need(f"{call}: code {code}")
+    for call in ("step", "run", "decode", "write event"):
+        for kind, name in calls.KINDS.items():
+            table.need(f"{call}: kind {kind} {name}")
+    need_refusals(table)
+    need_places(table)
+    steps.need(table)
+    ranges.need(table)
+
+
+def need_refusals(table):
+    for call in ("feed", "run", "decode"):
+        for kind, operands in RESTRICTED.items():
+            for operand in operands:
+                table.need(f"{call}: kind {kind}, operand {operand} broken alone")
+        table.need(f"{call}: kind 0", f"{call}: kind 8", f"{call}: kind 255", f"{call}: 3 before 4")
+    for call in ("step", "write event"):
+        for kind, operands in RESTRICTED_IN_EVENTS.items():
+            table.need(f"{call}: kind {kind}, operand {operands} broken")
+        table.need(f"{call}: places without an operand not 0, ignored")
+    for call in ("feed", "run"):
+        table.need(f"{call}: 3 before 7", f"{call}: 4 before 7", f"{call}: 5 with a count of 0")
+    table.need("write event: 4 before 7", "write header: 2 before 7", "step: 8 before 4")
+    for bit, name in enumerate(("ALERT pulled", "T_CRIT_A pulled", "acknowledged", "conversion taken")):
+        table.need(f"run: answer D{bit} {name}", f"run: answer D{bit} clear")
+
+
+def need_places(table):
+    for taken in range(6):
+        table.need(f"feed: cut after {taken} header bytes", f"feed: goes on after {taken} header bytes")
+    for carried in range(4):
+        table.need(f"feed: cut after {carried} bytes of a record", f"feed: goes on with {carried} bytes of a record")
+    table.need("feed: ends at the counted end", "feed: empty part within the capture")
+    for lent in range(6):
+        table.need(f"feed: room {lent}, 7 with {lent // 2 * 2} bytes written", f"run: room {lent}, 7 with {lent // 2 * 2} bytes written")
+        table.need(f"write event: room {lent}", f"write header: room {lent}")
+    for lent in range(2, 6):
+        table.need(f"feed: room {lent}, 0 with a record answered")
+    table.need("feed: room above 5, 7", "feed: room above 5, 0", "run: room above 5, 7", "write header: room 6", "write header: room above 6")
+    table.need("write event: room above 5")
+    table.need("after 7: answered", "after 7: 7 again", "after 7: empty part", "after 7: finish gives 6", "after 7: another fourth byte refused")
+    for kind in calls.KINDS:
+        table.need(f"feed: 7 at kind {kind}")
+    for code in range(1, 6):
+        table.need(f"after lasting code {code}: empty part", f"after lasting code {code}: bytes", f"after lasting code {code}: finish")
+
+
+class Watcher:
+    """Goes through calls and results, and counts."""
+
+    def __init__(self, table):
+        self.table = table
+        self.calls = 0
+        self.records = 0
+        self.by_command = {ord(c): getattr(self, "see_" + n.replace(" ", "_")) for c, n in calls.NAMES.items()}
+
+    def watch(self, stream, results):
+        """A stream begins with a reader and a device of all zeros."""
+        self.reader = bytes(calls.READER_BYTES)
+        self.reader_set = set()
+        self.no_room = False
+        self.steps = steps.Steps(self.table)
+        parts = calls.split(stream)
+        for call, result in zip(parts, calls.split_results(parts, results)):
+            self.calls += 1
+            self.table.count(f"call: {calls.NAMES[chr(call[0])]}")
+            self.by_command[call[0]](call, result)
+
+    # ---- The reader ----
+
+    def see_fresh_reader(self, _call, _result):
+        self.reader = bytes(calls.READER_BYTES)
+        self.reader_set = set()
+        self.no_room = False
+
+    def see_set_the_reader(self, call, _result):
+        self.reader = call[1:]
+        self.reader_set = {"feed", "finish"}
+        self.no_room = False
+
+    def see_ranges(self, name, code):
+        """The ranges of a reader that was set, once for each sort of call."""
+        if name in self.reader_set:
+            ranges.see_reader(self.table, name, self.reader, code)
+            self.reader_set.discard(name)
+
+    def see_finish(self, _call, result):
+        code = result[1]
+        self.table.count(f"finish: code {code}")
+        self.see_ranges("finish", code)
+        held = self.reader[13]
+        if code != 8 and held:
+            self.table.count(f"after lasting code {held}: finish")
+        if self.no_room and code == 6:
+            self.table.count("after 7: finish gives 6")
+
+    def see_feed(self, call, result):
+        before, code, part = self.reader, result[1], calls.feed_part(call)
+        consumed, written = calls.number(result[2:6]), calls.number(result[6:10])
+        self.table.count(f"feed: code {code}")
+        self.see_ranges("feed", code)
+        self.reader = result[-calls.READER_BYTES :]
+        self.records += written // 2
+        if code == 8:
+            return
+        self.reader_set = set()
+        if before[13]:
+            self.table.count(f"after lasting code {before[13]}: {'bytes' if part else 'empty part'}")
+            return
+        self.see_places(before, part, code)
+        self.see_room("feed", calls.room(call), code, written)
+        self.see_retry(part, code, consumed, written)
+        if code in (3, 4):
+            self.see_refused("feed", code, self.reader[10:13] + part[consumed : consumed + 1], calls.room(call) - written)
+        if code == 5 and calls.number(self.reader[1:5]) == 0:
+            self.table.count("feed: 5 with a count of 0")
+        if code == 7:
+            self.table.count(f"feed: 7 at kind {self.reader[10]}")
+
+    def see_places(self, before, part, code):
+        """Where a feed begins and where it ends."""
+        if part and before[0] < 6:
+            self.table.count(f"feed: goes on after {before[0]} header bytes")
+        elif part and before[1:5] != before[5:9]:
+            self.table.count(f"feed: goes on with {before[9]} bytes of a record")
+        after = self.reader
+        if code != 0:
+            return
+        if not part:
+            self.table.count("feed: empty part within the capture")
+        elif after[0] < 6:
+            self.table.count(f"feed: cut after {after[0]} header bytes")
+        elif after[1:5] != after[5:9]:
+            self.table.count(f"feed: cut after {after[9]} bytes of a record")
+        else:
+            self.table.count("feed: ends at the counted end")
+        if not part and after[0] == 0:
+            self.table.count("feed: cut after 0 header bytes")
+
+    def see_room(self, name, lent, code, written):
+        if lent > 5 and (code == 7 or (code == 0 and name == "feed")):
+            self.table.count(f"{name}: room above 5, {code}")
+        elif lent <= 5 and code == 7:
+            self.table.count(f"{name}: room {lent}, 7 with {written} bytes written")
+        elif lent <= 5 and code == 0 and written and name == "feed":
+            self.table.count(f"feed: room {lent}, 0 with a record answered")
+
+    def see_retry(self, part, code, consumed, written):
+        if self.no_room and not part:
+            self.table.count("after 7: empty part")
+            return
+        if self.no_room and written:
+            self.table.count("after 7: answered")
+        if self.no_room and code == 7 and consumed == 0:
+            self.table.count("after 7: 7 again")
+        if self.no_room and code == 4 and consumed == 0:
+            self.table.count("after 7: another fourth byte refused")
+        self.no_room = code == 7
+
+    def see_refused(self, name, code, record, left):
+        if code == 3:
+            if record[0] in (0, 8, 255):
+                self.table.count(f"{name}: kind {record[0]}")
+            if record[1:4] == b"\xff\xff\xff":
+                self.table.count(f"{name}: 3 before 4")
+        broken = broken_operands(record, RESTRICTED)
+        if code == 4 and len(broken) == 1:
+            self.table.count(f"{name}: kind {record[0]}, operand {broken} broken alone")
+        if left < 2:
+            self.table.count(f"{name}: {code} before 7")
+
+    def see_run(self, call, result):
+        written, code = divmod(calls.number(result[1:9]), 16)
+        capture, answers = calls.run_capture(call), result[9 : 9 + written]
+        self.table.count(f"run: code {code}")
+        self.records += written // 2
+        self.see_room("run", calls.room(call), code, written)
+        kinds = capture[6 : 6 + 2 * written : 4]
+        for kind, name in calls.KINDS.items():
+            self.table.count(f"run: kind {kind} {name}", kinds.count(kind))
+        self.see_answers(answers[::2])
+        at = 6 + 2 * written
+        if code in (3, 4):
+            self.see_refused("run", code, capture[at : at + 4], calls.room(call) - written)
+        if code == 5 and calls.number(capture[2:6]) == 0:
+            self.table.count("run: 5 with a count of 0")
+
+    def see_answers(self, firsts):
+        often = [(value, firsts.count(value)) for value in range(16)]
+        for bit, name in enumerate(("ALERT pulled", "T_CRIT_A pulled", "acknowledged", "conversion taken")):
+            pulled = sum(n for value, n in often if value & 1 << bit)
+            self.table.count(f"run: answer D{bit} {name}", pulled)
+            self.table.count(f"run: answer D{bit} clear", len(firsts) - pulled)
+
+    # ---- The device ----
+
+    def see_set_the_device(self, call, _result):
+        self.steps.set_device(call[1:])
+
+    def see_step(self, call, result):
+        code, record = result[1], call[1:5]
+        self.table.count(f"step: code {code}")
+        broken = broken_operands(record, RESTRICTED_IN_EVENTS)
+        if code == 0:
+            self.records += 1
+            self.table.count(f"step: kind {record[0]} {calls.KINDS[record[0]]}")
+            self.see_ignored("step", record)
+        if code == 4:
+            self.table.count(f"step: kind {record[0]}, operand {broken} broken")
+        if code == 8 and broken:
+            self.table.count("step: 8 before 4")
+        self.steps.see(record, result)
+
+    def see_ignored(self, name, record):
+        if broken_operands(record, RESTRICTED):
+            self.table.count(f"{name}: places without an operand not 0, ignored")
+
+    # ---- The writers and the decoder ----
+
+    def see_write_event(self, call, result):
+        code, record, lent = result[1], call[1:5], calls.room(call)
+        self.table.count(f"write event: code {code}")
+        self.table.count(f"write event: room {lent if lent < 6 else 'above 5'}")
+        if code == 0:
+            self.table.count(f"write event: kind {record[0]} {calls.KINDS[record[0]]}")
+            self.see_ignored("write event", record)
+        if code == 4:
+            self.table.count(f"write event: kind {record[0]}, operand {broken_operands(record, RESTRICTED_IN_EVENTS)} broken")
+        if code == 4 and lent < 4:
+            self.table.count("write event: 4 before 7")
+
+    def see_write_header(self, call, result):
+        code, lent = result[1], calls.room(call)
+        self.table.count(f"write header: code {code}")
+        self.table.count(f"write header: room {lent if lent < 7 else 'above 6'}")
+        if code == 2 and lent < 6:
+            self.table.count("write header: 2 before 7")
+
+    def see_decode(self, call, result):
+        code, record = result[1], call[1:5]
+        self.table.count(f"decode: code {code}")
+        if code == 0:
+            self.table.count(f"decode: kind {record[0]} {calls.KINDS[record[0]]}")
+        else:
+            self.see_refused("decode", code, record, 2)
+
+
+def main():
+    table = Table()
+    need_everything(table)
+    watcher = Watcher(table)
+    for name in sys.argv[1:]:
+        watcher.watch(pathlib.Path(name).read_bytes(), pathlib.Path(f"{name}.results").read_bytes())
+    table.show()
+    print(f"covered: {watcher.calls} calls, {watcher.records} records, {len(table.counts)} rows")
+    missed = table.missed()
+    if watcher.calls < CALLS_LEAST:
+        missed.append(f"{CALLS_LEAST} calls")
+    if watcher.records < RECORDS_LEAST:
+        missed.append(f"{RECORDS_LEAST} records")
+    for name in missed:
+        print(f"covered: not reached: {name}")
+    return 1 if missed else 0
+
+
+if __name__ == "__main__":
+    sys.exit(main())

@@ -1,0 +1,37 @@
+"""A table of things that must occur, and how often each did."""
+
+
+class Table:
+    def __init__(self):
+        self.counts = {}
+        self.sets = {}
+
+    def need(self, *names):
+        """Things that must occur at least once."""
+        for name in names:
+            self.counts[name] = 0
+
+    def need_all(self, name, values):
+        """A thing that must occur with each of these values."""
+        self.counts[name] = 0
+        self.sets[name] = set(values)
+
+    def count(self, name, times=1):
+        self.counts[name] += times
+
+    def count_value(self, name, value):
+        """One value of a thing of `need_all`."""
+        self.counts[name] += 1
+        self.sets[name].discard(value)
+
+    def show(self):
+        for name, times in self.counts.items():
+            print(f"{times:9}  {name}")
+
+    def missed(self):
+        """What never occurred, in words."""
+        never = [name for name, times in self.counts.items() if times == 0]
+        for name, values in self.sets.items():
+            if values and self.counts[name]:
+                never.append(f"{name}: {' '.join(f'{v:02X}' for v in sorted(values))}")
+        return never
