@@ -1,0 +1,108 @@
+#!/usr/bin/env python3
+"""faults.py [JOBS]: puts each fault of tests/compare/faults.txt into a copy of second/second.c, alone, and sees whether the
+comparison notices: whether its results on the streams, or its listings, differ from those of second/second.c as it is.
+
+Run tests/compare.sh first: it leaves the streams and the results in build/compare. JOBS is 1 or 2, else 1. Prints for each fault the
+first stream and call that notices it. Fails if one is not noticed, does not apply at exactly one place, or does not compile.
+"""
+import concurrent.futures
+import pathlib
+import re
+import subprocess
+import sys
+
+import calls
+
+ROOT = pathlib.Path(__file__).resolve().parent.parent.parent
+BUILD = ROOT / "build" / "compare"
+THEMES = ("writer", "device-ranges", "reader-ranges", "device", "reader", "runs", "listed")
+SECONDS_MOST = 60
+
+
+def read_faults(text):
+    """(name, text to be replaced, text in its place) of each fault."""
+    faults = []
+    for block in re.split(r"^= ", text, flags=re.M)[1:]:
+        name, *lines = block.split("\n")
+        old = "\n".join(line[1:] for line in lines if line.startswith("-"))
+        new = "\n".join(line[1:] for line in lines if line.startswith("+"))
+        faults.append((name, old, new))
+    return faults
+
+
+def compiled(source, front_end, program):
+    """Whether the faulty copy compiles with this front end."""
+    command = ["cc", "-std=c11", "-O1", "-I", "second", "-o", str(program), str(source), f"second/{front_end}"]
+    return subprocess.run(command, cwd=ROOT, capture_output=True).returncode == 0
+
+
+def answer(program, given):
+    """What a program writes; None if it does not end."""
+    try:
+        return subprocess.run([str(program)], input=given, capture_output=True, timeout=SECONDS_MOST).stdout
+    except subprocess.TimeoutExpired:
+        return None
+
+
+def first_call(stream, expected, given):
+    parts = calls.split(stream)
+    pairs = zip(calls.split_results(parts, expected), calls.split_results(parts, given))
+    at = next((i for i, (left, right) in enumerate(pairs) if left != right), len(parts) - 1)
+    return f"call {at + 1}, {calls.NAMES[chr(parts[at][0])]}"
+
+
+def noticed_in_streams(program):
+    """(theme, call) for each stream whose results differ."""
+    found = []
+    for theme in THEMES:
+        stream = (BUILD / f"{theme}.stream").read_bytes()
+        expected = (BUILD / f"{theme}.stream.results").read_bytes()
+        given = answer(program, stream)
+        if given != expected:
+            found.append((theme, "does not end" if given is None else first_call(stream, expected, given)))
+    return found
+
+
+def noticed_in_listings(program):
+    for number, call in enumerate(calls.split((BUILD / "listed.stream").read_bytes()), 1):
+        capture = calls.run_capture(call)
+        if answer(program, capture) != answer(BUILD / "second-listing", capture):
+            return [("listings", f"capture {number}")]
+    return []
+
+
+def tried(number, fault, source):
+    """(whether it was noticed, what to say)."""
+    name, old, new = fault
+    if source.count(old) != 1 or old == "":
+        return False, f"{name}: stands {source.count(old)} times in second/second.c, must stand once"
+    copy, program = BUILD / f"fault-{number}.c", BUILD / f"fault-{number}"
+    copy.write_text(source.replace(old, new))
+    if not compiled(copy, "replay.c", program):
+        return False, f"{name}: does not compile, see {copy}"
+    found = noticed_in_streams(program)
+    if not found and compiled(copy, "listing.c", program):
+        found = noticed_in_listings(program)
+    if not found:
+        return False, f"{name}: NOT NOTICED, see {copy}"
+    copy.unlink()
+    program.unlink()
+    others = "".join(f", {theme}" for theme, _ in found[1:])
+    return True, f"{name} | {found[0][0]}, {found[0][1]} | {others[2:]}"
+
+
+def main():
+    jobs = 2 if sys.argv[1:] == ["2"] else 1
+    source = (ROOT / "second" / "second.c").read_text()
+    faults = read_faults((ROOT / "tests" / "compare" / "faults.txt").read_text())
+    missed = 0
+    print("| fault | noticed first in | also in |\n|---|---|---|")
+    with concurrent.futures.ThreadPoolExecutor(max_workers=jobs) as pool:
+        for noticed, said in pool.map(lambda pair: tried(*pair, source), enumerate(faults, 1)):
+            missed += not noticed
+            print(f"| {said} |" if noticed else f"faults: {said}", flush=True)
+    print(f"faults: {len(faults) - missed} of {len(faults)} noticed")
+    return 1 if missed or not faults else 0
+
+
+sys.exit(main())
