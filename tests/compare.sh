@@ -1,8 +1,8 @@
 #!/usr/bin/env bash
 # The second program held to the proved one, call for call: streams of calls with fixed seeds (tests/compare/streams.c) go through
 # second/replay.c and through the replay program over the model, and what both write is compared byte for byte; the streams of
-# steps and whole captures also go through the C library, and captures through both listing programs. Prints what was covered and the
-# lines of second/second.c that were not reached; exits non-zero at the first failure. Needs what tests/bench.sh leaves in
+# steps and whole captures also go through the C library, and captures through both listing programs. Prints what was covered and
+# the lines of second/second.c that were not reached; exits non-zero at the first failure. Needs what tests/bench.sh leaves in
 # build/. All its files are in build/compare. With REPLAY=COMMAND in the environment that command stands for the replay program.
 set -euo pipefail
 cd "$(dirname "$0")/.."
@@ -13,7 +13,7 @@ strict=(-std=c11 -O2 -Wall -Wextra -Werror -pedantic)
 both=(device device-ranges runs listed)
 all=("${both[@]}" reader reader-ranges writer)
 lines_least=99
-export PYTHONPYCACHEPREFIX=$here/pycache
+export PYTHONPYCACHEPREFIX=$PWD/$here/pycache
 
 stop() {
     printf 'compare: %s\n' "$*" >&2
@@ -61,7 +61,8 @@ measure_lines() {
     gcc -std=c11 --coverage -o "$here/measured-replay" "$here/measured.o" second/replay.c -Isecond
     gcc -std=c11 --coverage -o "$here/measured-listing" "$here/measured.o" second/listing.c -Isecond
     for theme in "${all[@]}"; do
-        "$here/measured-replay" <"$here/$theme.stream" | cmp - "$here/$theme.stream.results" || stop "$theme: second disagrees with itself"
+        "$here/measured-replay" <"$here/$theme.stream" | cmp - "$here/$theme.stream.results" ||
+            stop "$theme: second/ gives other results without optimisation"
     done
     python3 tests/compare/listings.py "$here/second-listing" "$here/measured-listing" "$here/listed.stream"
     gcov --stdout --object-file "$here/measured.o" second/second.c >"$here/second.c.gcov" 2>"$here/gcov.log" || {
@@ -82,8 +83,14 @@ replay=$(model)
 [ -n "$replay" ] || stop "no replay program over the model in build/bin or target/bin: run scripts/build.sh"
 mkdir -p "$here"
 make_programs
-python3 tests/compare/compare.py "$here/second" "$replay" $(streams_of "${all[@]}") || stop "the replay program disagrees, see above"
-python3 tests/compare/compare.py "$here/second" "$(command_of "$here/library")" $(streams_of "${both[@]}") || stop "the library disagrees, see above"
-python3 tests/compare/listings.py "$here/second-listing" build/bin/lm89-listing "$here/listed.stream" || stop "the listing program disagrees, see above"
-python3 tests/compare/covered.py $(streams_of "${all[@]}") || stop "something never occurred, see above"
+printf 'second/ and %s:\n' "$replay"
+python3 tests/compare/compare.py "$here/second" "$replay" $(streams_of "${all[@]}") ||
+    stop "second/ and the replay program disagree, see above: document 01 says which is wrong"
+printf 'second/ and the C library:\n'
+python3 tests/compare/compare.py "$here/second" "$(command_of "$here/library")" $(streams_of "${both[@]}") ||
+    stop "second/ and the C library disagree, see above: document 01 says which is wrong"
+python3 tests/compare/listings.py "$here/second-listing" build/bin/lm89-listing "$here/listed.stream" ||
+    stop "the two listing programs disagree, see above: document 01 says which is wrong"
+python3 tests/compare/covered.py $(streams_of "${all[@]}") ||
+    stop "something never occurred, see above: add it to tests/compare/streams.c"
 measure_lines

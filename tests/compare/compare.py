@@ -2,8 +2,8 @@
 """compare.py ONE OTHER STREAM...: runs two programs on each stream of calls and compares what they write, byte for byte.
 
 ONE and OTHER are commands in one argument each, as 'build/compare/second' or 'qemu-x86_64 target/bin/replay'. ONE's results are
-left beside each stream as STREAM.results. Where they disagree it prints the first call that differs, what each gave, field by field, and
-the shortest stream it finds that still shows a difference; the exit status is 1. To show one such stream again:
+left beside each stream as STREAM.results. Where they disagree it prints the first call that differs, what each gave, field by
+field, and the shortest stream it finds that still shows a difference; the exit status is 1. To see one such stream again:
 
     python3 tests/hex.py <shortest.hex >shortest && python3 tests/compare/compare.py ONE OTHER shortest
 """
@@ -14,6 +14,8 @@ import sys
 
 import calls
 
+TRIES_MOST = 1000
+
 
 def outcome(program, stream):
     """(exit status, standard output, standard error) of a program on a stream."""
@@ -22,15 +24,19 @@ def outcome(program, stream):
 
 
 class Pair:
-    """The two programs."""
+    """The two programs, and how often they may still be tried in search of a shorter stream."""
 
     def __init__(self, one, other):
         self.programs = (one, other)
+        self.tries = TRIES_MOST
 
     def outcomes(self, stream):
         return [outcome(program, stream) for program in self.programs]
 
     def disagree(self, parts):
+        if self.tries == 0:
+            return False
+        self.tries -= 1
         one, other = self.outcomes(calls.join(parts))
         return one[:2] != other[:2]
 
@@ -70,17 +76,22 @@ def place_in(one, other):
 def without_some(items, still):
     """Items left after all that can be dropped, in ever smaller groups, are dropped."""
     size = max(1, len(items) // 2)
-    while items:
-        at = 0
-        while at < len(items):
-            fewer = items[:at] + items[at + size :]
-            if still(fewer):
-                items = fewer
-            else:
-                at += size
-        if size == 1:
-            break
-        size //= 2
+    while size:
+        before = len(items)
+        items = without_groups(items, size, still)
+        if size > 1 or len(items) == before:
+            size //= 2
+    return items
+
+
+def without_groups(items, size, still):
+    at = 0
+    while at < len(items):
+        fewer = items[:at] + items[at + size :]
+        if still(fewer):
+            items = fewer
+        else:
+            at += size
     return items
 
 
@@ -142,9 +153,21 @@ def shorter_feed(pair, parts, at):
     return rebuilt(kept, lent)
 
 
+def plainer_state(pair, parts, at):
+    """The call at this place, which sets a state, with as many bytes 0 as can be."""
+    for place in range(1, len(parts[at])):
+        call = parts[at][:place] + b"\0" + parts[at][place + 1 :]
+        plainer = parts[:at] + [call] + parts[at + 1 :]
+        if call != parts[at] and pair.disagree(plainer):
+            parts = plainer
+    return parts
+
+
 def shortest(pair, parts, results, at):
     parts = fewer_calls(pair, parts, results, at)
     for place, call in enumerate(parts):
+        if call[:1] in (b"D", b"R"):
+            parts = plainer_state(pair, parts, place)
         if call[:1] == b"C":
             parts = parts[:place] + [shorter_run(pair, call)] + parts[place + 1 :]
         if call[:1] == b"F":

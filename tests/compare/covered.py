@@ -75,17 +75,20 @@ def need_places(table):
         table.need(f"feed: cut after {carried} bytes of a record", f"feed: goes on with {carried} bytes of a record")
     table.need("feed: ends at the counted end", "feed: empty part within the capture")
     for lent in range(6):
-        table.need(f"feed: room {lent}, 7 with {lent // 2 * 2} bytes written", f"run: room {lent}, 7 with {lent // 2 * 2} bytes written")
+        for call in ("feed", "run"):
+            table.need(f"{call}: room {lent}, 7 with {lent // 2 * 2} bytes written")
         table.need(f"write event: room {lent}", f"write header: room {lent}")
     for lent in range(2, 6):
         table.need(f"feed: room {lent}, 0 with a record answered")
-    table.need("feed: room above 5, 7", "feed: room above 5, 0", "run: room above 5, 7", "write header: room 6", "write header: room above 6")
-    table.need("write event: room above 5")
-    table.need("after 7: answered", "after 7: 7 again", "after 7: empty part", "after 7: finish gives 6", "after 7: another fourth byte refused")
+    table.need("feed: room above 5, 7", "feed: room above 5, 0", "run: room above 5, 7", "write event: room above 5")
+    table.need("write header: room 6", "write header: room above 6")
+    table.need("after 7: answered", "after 7: 7 again", "after 7: empty part", "after 7: finish gives 6")
+    table.need("after 7: another fourth byte refused")
     for kind in calls.KINDS:
         table.need(f"feed: 7 at kind {kind}")
     for code in range(1, 6):
-        table.need(f"after lasting code {code}: empty part", f"after lasting code {code}: bytes", f"after lasting code {code}: finish")
+        for asked in ("empty part", "bytes", "finish"):
+            table.need(f"after lasting code {code}: {asked}")
 
 
 class Watcher:

@@ -2,8 +2,9 @@
 """faults.py [JOBS]: puts each fault of tests/compare/faults.txt into a copy of second/second.c, alone, and sees whether the
 comparison notices: whether its results on the streams, or its listings, differ from those of second/second.c as it is.
 
-Run tests/compare.sh first: it leaves the streams and the results in build/compare. JOBS is 1 or 2, else 1. Prints for each fault the
-first stream and call that notices it. Fails if one is not noticed, does not apply at exactly one place, or does not compile.
+Run tests/compare.sh first: it leaves the streams and the results in build/compare. JOBS is 1 (so too if not given) or 2. Prints
+for each fault the first stream and call that notices it, and the other streams that do. Fails if one is not noticed, does not
+apply at exactly one place, or does not compile.
 """
 import concurrent.futures
 import pathlib

@@ -479,6 +479,24 @@ static void scene_open(bench *b)
     plan(b, READ, own_address(b), one_in(2) ? 0x01 : STATUS, 0);
 }
 
+/* Limits so wide that an open diode sets no bit but OPEN, if any; then status and alert response. */
+static void scene_open_alone(bench *b)
+{
+    static const uint8_t high[] = { LOCAL_HIGH, LOCAL_CRIT, REMOTE_HIGH, REMOTE_CRIT };
+    static const uint8_t low[] = { LOCAL_LOW, REMOTE_LOW };
+    for (size_t i = 0; i < COUNT_OF(high); i++)
+        plan_set(b, high[i], 127);
+    for (size_t i = 0; i < COUNT_OF(low); i++)
+        plan_set(b, low[i], 0x80);
+    plan_set(b, CONFIGURATION, one_in(2) ? FAULT_QUEUE : 0);
+    plan(b, READ, own_address(b), STATUS, 0);
+    plan(b, OPEN_DIODE, local_near(b), 0, 0);
+    if (one_in(2))
+        plan(b, RECEIVE, ALERT_RESPONSE, 0, 0);
+    plan(b, READ, own_address(b), STATUS, 0);
+    plan(b, READ, own_address(b), 0x03, 0);
+}
+
 static void scene_configuration(bench *b)
 {
     uint8_t drop = one_in(4) ? 0 : STANDBY;
@@ -508,7 +526,7 @@ static void plan_scene(bench *b)
     static void (*const scenes[])(bench *) = {
         scene_near, scene_near, scene_any_limit, scene_close_limits, scene_fault_run, scene_fault_run, scene_critical,
         scene_critical, scene_status, scene_alert_response, scene_alert_mode, scene_standby, scene_one_shot_awake,
-        scene_pointer, scene_other_address, scene_offset, scene_open, scene_configuration, scene_read, scene_write
+        scene_pointer, scene_other_address, scene_offset, scene_open, scene_open_alone, scene_configuration, scene_read, scene_write
     };
     b->planned = 0;
     b->played = 0;
@@ -638,7 +656,7 @@ static void theme_device(void)
         for (unsigned i = 0; i < 500; i++)
             step(next_record(&b));
     }
-    for (unsigned i = 0; i < 24000; i++) {
+    for (unsigned i = 0; i < 40000; i++) {
         random_device(dump);
         call_device(dump);
         aim_at(&b, dump);
@@ -1261,7 +1279,7 @@ static void theme_runs(void)
             damage(&work, 3 + below(2));
         call_run(work.bytes, work.length, any_room());
     }
-    for (unsigned i = 0; i < 330; i++) {
+    for (unsigned i = 0; i < 700; i++) {
         make_capture(&work, 2000 + below(2000));
         damage(&work, one_in(10) ? below(DAMAGES) : 0);
         uint32_t room = 2 * (uint32_t)work.records;
