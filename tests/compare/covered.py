@@ -295,9 +295,14 @@ def main():
     table = Table()
     need_everything(table)
     watcher = Watcher(table)
+    told = []
     for name in sys.argv[1:]:
+        calls_before, records_before = watcher.calls, watcher.records
         watcher.watch(pathlib.Path(name).read_bytes(), pathlib.Path(f"{name}.results").read_bytes())
+        told.append(f"{pathlib.Path(name).stem}: {watcher.calls - calls_before} calls, {watcher.records - records_before} records")
     table.show()
+    for line in told:
+        print(f"covered: {line}")
     print(f"covered: {watcher.calls} calls, {watcher.records} records, {len(table.counts)} rows")
     missed = table.missed()
     if watcher.calls < CALLS_LEAST:

@@ -526,7 +526,8 @@ static void plan_scene(bench *b)
     static void (*const scenes[])(bench *) = {
         scene_near, scene_near, scene_any_limit, scene_close_limits, scene_fault_run, scene_fault_run, scene_critical,
         scene_critical, scene_status, scene_alert_response, scene_alert_mode, scene_standby, scene_one_shot_awake,
-        scene_pointer, scene_other_address, scene_offset, scene_open, scene_open_alone, scene_configuration, scene_read, scene_write
+        scene_pointer, scene_other_address, scene_offset, scene_open, scene_open_alone, scene_configuration, scene_read,
+        scene_write
     };
     b->planned = 0;
     b->played = 0;
