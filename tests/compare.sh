@@ -3,7 +3,7 @@
 # second/replay.c and through the replay program over the model, and what both write is compared byte for byte; the streams of
 # steps and whole captures also go through the C library, and captures through both listing programs. Prints what was covered and
 # the lines of second/second.c that were not reached; exits non-zero at the first failure. Needs what tests/bench.sh leaves in
-# build/. All its files are in build/compare. With REPLAY=COMMAND in the environment that command stands for the replay program.
+# build/. All its files are in build/compare. 'tests/compare.sh COMMAND' takes that command in the place of the replay program.
 set -euo pipefail
 cd "$(dirname "$0")/.."
 source scripts/machine.sh
@@ -29,10 +29,10 @@ command_of() {
     fi
 }
 
-# The replay program over the model.
+# The replay program over the model, or what is given in its place.
 model() {
-    if [ -n "${REPLAY:-}" ]; then
-        printf '%s' "$REPLAY"
+    if [ $# -gt 0 ]; then
+        printf '%s' "$1"
     elif [ -x build/bin/replay ]; then
         printf 'build/bin/replay'
     elif [ -x target/bin/replay ]; then
@@ -79,7 +79,7 @@ measure_lines() {
         }' "$here/second.c.gcov" || stop "less than $lines_least percent of the lines of second/second.c reached"
 }
 
-replay=$(model)
+replay=$(model "$@")
 [ -n "$replay" ] || stop "no replay program over the model in build/bin or target/bin: run scripts/build.sh"
 mkdir -p "$here"
 make_programs
