@@ -19,7 +19,7 @@ CODES = {
     "feed": (0, 1, 2, 3, 4, 5, 7, 8), "finish": (0, 1, 2, 3, 4, 5, 6, 8), "step": (0, 4, 8), "write event": (0, 4, 7),
     "write header": (0, 2, 7), "decode": (0, 3, 4), "run": (0, 1, 2, 3, 4, 5, 6, 7),
 }
-# The operands of each kind that the table of kinds restricts, and those that only a record restricts.
+# The operands of each kind that the table of kinds restricts: in a record, and in an event, which lacks those that must be 0.
 RESTRICTED = {1: "a", 2: "ac", 3: "ac", 4: "abc", 5: "c", 6: "bc", 7: "abc"}
 RESTRICTED_IN_EVENTS = {1: "a", 2: "a", 3: "a", 4: "a", 5: "c"}
 

@@ -197,10 +197,10 @@ static void power_on_settings(uint8_t *set, uint8_t variant)
     set[HYSTERESIS] = 10;
 }
 
-static void plan(bench *b, uint8_t kind, uint8_t a, uint8_t second, uint8_t c)
+static void plan(bench *b, uint8_t kind, uint8_t first, uint8_t second, uint8_t third)
 {
     if (b->planned < PLAN_MOST)
-        b->plan[b->planned++] = (record){ kind, a, second, c };
+        b->plan[b->planned++] = (record){ kind, first, second, third };
 }
 
 static void plan_set(bench *b, unsigned place, uint8_t value)
@@ -844,9 +844,9 @@ static bool break_operand(record *r, unsigned operand)
 {
     uint8_t *places[] = { &r->a, &r->b, &r->c };
     if (operand == 0 && r->kind <= RECEIVE)
-        *places[0] |= 0x80;
+        r->a |= 0x80;
     else if (operand == 2 && r->kind == CONVERSION)
-        *places[2] = (uint8_t)(r->c + 1 + below(31));
+        r->c = (uint8_t)(r->c + 1 + below(31));
     else if (!has_operand(r->kind, operand))
         *places[operand] = not_zero();
     else
