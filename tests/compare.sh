@@ -12,6 +12,10 @@ here=build/compare
 strict=(-std=c11 -O2 -Wall -Wextra -Werror -pedantic)
 both=(device device-ranges runs listed)
 all=("${both[@]}" reader reader-ranges writer)
+both_streams=("${both[@]/#/$here/}")
+both_streams=("${both_streams[@]/%/.stream}")
+all_streams=("${all[@]/#/$here/}")
+all_streams=("${all_streams[@]/%/.stream}")
 lines_least=99
 export PYTHONPYCACHEPREFIX=$PWD/$here/pycache
 
@@ -38,10 +42,6 @@ model() {
     elif [ -x target/bin/replay ]; then
         command_of target/bin/replay
     fi
-}
-
-streams_of() {
-    printf "$here/%s.stream " "$@"
 }
 
 make_programs() {
@@ -84,13 +84,13 @@ replay=$(model "$@")
 mkdir -p "$here"
 make_programs
 printf 'second/ and %s:\n' "$replay"
-python3 tests/compare/compare.py "$here/second" "$replay" $(streams_of "${all[@]}") ||
+python3 tests/compare/compare.py "$here/second" "$replay" "${all_streams[@]}" ||
     stop "second/ and the replay program disagree, see above: document 01 says which is wrong"
 printf 'second/ and the C library:\n'
-python3 tests/compare/compare.py "$here/second" "$(command_of "$here/library")" $(streams_of "${both[@]}") ||
+python3 tests/compare/compare.py "$here/second" "$(command_of "$here/library")" "${both_streams[@]}" ||
     stop "second/ and the C library disagree, see above: document 01 says which is wrong"
 python3 tests/compare/listings.py "$here/second-listing" build/bin/lm89-listing "$here/listed.stream" ||
     stop "the two listing programs disagree, see above: document 01 says which is wrong"
-python3 tests/compare/covered.py $(streams_of "${all[@]}") ||
+python3 tests/compare/covered.py "${all_streams[@]}" ||
     stop "something never occurred, see above: add it to tests/compare/streams.c"
 measure_lines
