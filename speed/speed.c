@@ -1,4 +1,7 @@
-/* Nanoseconds a record: lm89_run against the second program's run, on the same capture in the same process, best of five. */
+/*
+ * Nanoseconds a record: lm89_run against the second program's run, on the same capture in the same process, best of five.
+ * 'speed RECORDS FILE' writes a mixed capture of so many records instead.
+ */
 #define _POSIX_C_SOURCE 199309L
 #include <inttypes.h>
 #include <stdio.h>
@@ -82,23 +85,47 @@ static double once(runner *run, const uint8_t *capture, size_t length, uint8_t *
     return (nanoseconds() - start) / RECORDS;
 }
 
-static void compare(const char *name, void (*record)(uint8_t *))
+static void *memory(size_t length)
 {
-    const uint8_t header[6] = {1, LM89_VARIANT_LM89C, RECORDS >> 24, (uint8_t)(RECORDS >> 16), (uint8_t)(RECORDS >> 8), (uint8_t)RECORDS};
-    size_t length = 6 + 4 * (size_t)RECORDS;
-    uint8_t *capture = malloc(length);
-    uint8_t *answers = calloc(2 * (size_t)RECORDS, 1);
-    uint8_t *others = calloc(2 * (size_t)RECORDS, 1);
-    double best = 1e9;
-    double other = 1e9;
-    if (capture == NULL || answers == NULL || others == NULL) {
-        fprintf(stderr, "speed: 128 MB of memory are not to be had\n");
+    void *bytes = calloc(length, 1);
+    if (bytes == NULL) {
+        fprintf(stderr, "speed: %zu bytes of memory are not to be had\n", length);
         exit(1);
     }
+    return bytes;
+}
+
+static uint8_t *capture_of(uint32_t records, void (*record)(uint8_t *))
+{
+    const uint8_t header[6] = {1, LM89_VARIANT_LM89C, (uint8_t)(records >> 24), (uint8_t)(records >> 16), (uint8_t)(records >> 8), (uint8_t)records};
+    size_t length = 6 + 4 * (size_t)records;
+    uint8_t *capture = memory(length);
     memcpy(capture, header, 6);
     for (size_t i = 6; i < length; i += 4) {
         record(capture + i);
     }
+    return capture;
+}
+
+static void write_capture(uint32_t records, const char *path)
+{
+    uint8_t *capture = capture_of(records, mixed);
+    FILE *file = fopen(path, "wb");
+    if (file == NULL || fwrite(capture, 6 + 4 * (size_t)records, 1, file) != 1 || fclose(file) != 0) {
+        fprintf(stderr, "speed: %s cannot be written\n", path);
+        exit(1);
+    }
+    free(capture);
+}
+
+static void compare(const char *name, void (*record)(uint8_t *))
+{
+    size_t length = 6 + 4 * (size_t)RECORDS;
+    uint8_t *capture = capture_of(RECORDS, record);
+    uint8_t *answers = memory(2 * (size_t)RECORDS);
+    uint8_t *others = memory(2 * (size_t)RECORDS);
+    double best = 1e9;
+    double other = 1e9;
     for (int i = 0; i < ROUNDS; i++) {
         double t = once(lm89_run, capture, length, answers);
         double u = once(second_run, capture, length, others);
@@ -115,8 +142,12 @@ static void compare(const char *name, void (*record)(uint8_t *))
     free(others);
 }
 
-int main(void)
+int main(int count, char **words)
 {
+    if (count == 3) {
+        write_capture((uint32_t)strtoul(words[1], NULL, 10), words[2]);
+        return 0;
+    }
     compare("mixed", mixed);
     compare("conversions", conversion);
     return 0;

@@ -44,6 +44,7 @@ blocks() {
 }
 
 scripts/build.sh
+scripts/inlined.sh || stop "the library is not inlined as it must be, see above"
 passes example examples/bench.c
 "${across[@]}" -x c++ -std=c++11 -fsyntax-only -Wall -Wextra -Werror -pedantic -Iinclude examples/bench.c || stop "include/lm89.h is not C++, see above"
 printf 'c++: header ok\n'
