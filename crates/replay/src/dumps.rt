@@ -1,0 +1,129 @@
+// A device and a reader as bytes of the stream, and back.
+use super::out;
+use super::sizes::byte;
+use super::sizes::four;
+use super::stream::part;
+use capture::Reader;
+use conversion::Sensed;
+use device::Device;
+
+fn signed(word: u16) -> i16 {
+    if word < 0x8000 {
+        word as i16
+    } else {
+        -1 - (0xFFFF - word) as i16
+    }
+}
+
+fn word(t: i16) -> u16 {
+    if t < 0 {
+        (t as i32 + 0x10000) as u16
+    } else {
+        t as u16
+    }
+}
+
+fn wide(b: u8) -> u16 {
+    b as u16
+}
+
+fn flag(on: bool) -> u8 {
+    if on { 1 } else { 0 }
+}
+
+fn settings(dump: &[u8]) -> [u8; 14] {
+    [
+        byte(dump, 11),
+        byte(dump, 12),
+        byte(dump, 13),
+        byte(dump, 14),
+        byte(dump, 15),
+        byte(dump, 16),
+        byte(dump, 17),
+        byte(dump, 18),
+        byte(dump, 19),
+        byte(dump, 20),
+        byte(dump, 21),
+        byte(dump, 22),
+        byte(dump, 23),
+        byte(dump, 24),
+    ]
+}
+
+pub(crate) fn device_of(dump: &[u8]) -> Device {
+    let sensed = Sensed {
+        local: byte(dump, 4),
+        remote: signed(wide(byte(dump, 5)) * 0x100 + wide(byte(dump, 6))),
+        live: byte(dump, 7),
+        faults: byte(dump, 8),
+        llatch: byte(dump, 9) != 0,
+        rlatch: byte(dump, 10) != 0,
+    };
+    Device {
+        variant: byte(dump, 0),
+        pointer: byte(dump, 1),
+        pending: byte(dump, 2) != 0,
+        status: byte(dump, 3),
+        sensed,
+        settings: settings(dump),
+    }
+}
+
+pub(crate) fn reader_of(dump: &[u8]) -> Reader {
+    Reader {
+        head: byte(dump, 0),
+        count: four(dump, 1),
+        done: four(dump, 5),
+        carried: byte(dump, 9),
+        bytes: [byte(dump, 10), byte(dump, 11), byte(dump, 12)],
+        held: byte(dump, 13),
+        device: device_of(part(dump, 14, 39)),
+    }
+}
+
+pub(crate) fn put_device(out: &mut [u8], at: usize, d: Device) {
+    let s = d.sensed;
+    let q = d.settings;
+    let remote = word(s.remote);
+    let dump = [
+        d.variant,
+        d.pointer,
+        flag(d.pending),
+        d.status,
+        s.local,
+        (remote / 0x100) as u8,
+        (remote % 0x100) as u8,
+        s.live,
+        s.faults,
+        flag(s.llatch),
+        flag(s.rlatch),
+        q[0],
+        q[1],
+        q[2],
+        q[3],
+        q[4],
+        q[5],
+        q[6],
+        q[7],
+        q[8],
+        q[9],
+        q[10],
+        q[11],
+        q[12],
+        q[13],
+    ];
+    out::put_all(out, at, &dump);
+}
+
+pub(crate) fn put_reader(out: &mut [u8], at: usize, r: Reader) {
+    let count = out::four(r.count as usize);
+    let done = out::four(r.done as usize);
+    let q = r.bytes;
+    let d = r.device;
+    let dump = [
+        r.head, count[0], count[1], count[2], count[3], done[0], done[1], done[2], done[3],
+        r.carried, q[0], q[1], q[2], r.held,
+    ];
+    out::put_all(out, at, &dump);
+    put_device(out, std::num::wrapping_add_usize(at, 14), d);
+}

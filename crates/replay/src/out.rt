@@ -1,0 +1,37 @@
+// Bytes put into a result.
+const MARKER: u8 = 0xA5;
+
+// A lent buffer before its call.
+pub(crate) fn fill(room: &mut [u8]) {
+    let mut i = 0;
+    while i < room.len() {
+        room[i] = MARKER;
+        i += 1;
+    }
+}
+
+pub(crate) fn put(out: &mut [u8], at: usize, b: u8) {
+    if at < out.len() {
+        out[at] = b;
+    }
+}
+
+// The bytes from `at` on, where they fit.
+pub(crate) fn put_all(out: &mut [u8], at: usize, bytes: &[u8]) {
+    if out.len() < at {
+        return;
+    }
+    if out.len() - at < bytes.len() {
+        return;
+    }
+    bytes::copy(bytes, &mut out[at..]);
+}
+
+pub(crate) fn four(n: usize) -> [u8; 4] {
+    [
+        (n / 0x1000000 % 0x100) as u8,
+        (n / 0x10000 % 0x100) as u8,
+        (n / 0x100 % 0x100) as u8,
+        (n % 0x100) as u8,
+    ]
+}
