@@ -46,7 +46,6 @@ fn feed(reader: Reader, call: &[u8], out: &mut [u8]) -> Reader {
         return reader;
     }
     let to = out.len() - 39;
-    out::fill(&mut out[from..to]);
     let fed = capture::feed(reader, part(call, 5, call.len()), &mut out[from..to]);
     let after = fed.reader;
     out::put(out, 1, fed.code);
@@ -73,7 +72,6 @@ fn write_event(call: &[u8], out: &mut [u8]) {
     if out.len() < from {
         return;
     }
-    out::fill(&mut out[from..]);
     let code = record::write_event(event_of(call), &mut out[from..]);
     out::put(out, 1, code);
 }
@@ -84,7 +82,6 @@ fn write_header(call: &[u8], out: &mut [u8]) {
     if out.len() < from {
         return;
     }
-    out::fill(&mut out[from..]);
     let code = record::write_header(byte(call, 1), four(call, 2), &mut out[from..]);
     out::put(out, 1, code);
 }
@@ -106,7 +103,6 @@ fn run(call: &[u8], out: &mut [u8]) {
     if out.len() < from {
         return;
     }
-    out::fill(&mut out[from..]);
     let result = bench::lm89_run(part(call, 9, call.len()), &mut out[from..]);
     out::put_all(out, 1, &out::four((result / 0x100000000) as usize));
     out::put_all(out, 5, &out::four((result % 0x100000000) as usize));
@@ -122,11 +118,12 @@ fn with_device(held: Held, device: Device) -> Held {
     Held { reader, device }
 }
 
-// One call; its result begins with its command.
+// One call. Its result begins with its command; what it is lent is marked before it.
 pub(crate) fn perform(held: Held, call: &[u8], out: &mut [u8]) -> Held {
     let command = byte(call, 0);
     let reader = held.reader;
     let device = held.device;
+    out::fill(out);
     out::put(out, 0, command);
     match command {
         b'N' => return with_reader(held, capture::fresh()),

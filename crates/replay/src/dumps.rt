@@ -1,4 +1,5 @@
 // A device and a reader as bytes of the stream, and back.
+ghost use Prim.Native.Nat.{_<_};
 use super::out;
 use super::sizes::byte;
 use super::sizes::four;
@@ -23,7 +24,9 @@ fn word(t: i16) -> u16 {
     }
 }
 
-fn wide(b: u8) -> u16 {
+fn wide(b: u8) -> u16
+    ensures { λ r. ⌜ r < 0x100 ⌝ }
+{
     b as u16
 }
 
@@ -121,8 +124,20 @@ pub(crate) fn put_reader(out: &mut [u8], at: usize, r: Reader) {
     let q = r.bytes;
     let d = r.device;
     let dump = [
-        r.head, count[0], count[1], count[2], count[3], done[0], done[1], done[2], done[3],
-        r.carried, q[0], q[1], q[2], r.held,
+        r.head,
+        count[0],
+        count[1],
+        count[2],
+        count[3],
+        done[0],
+        done[1],
+        done[2],
+        done[3],
+        r.carried,
+        q[0],
+        q[1],
+        q[2],
+        r.held,
     ];
     out::put_all(out, at, &dump);
     put_device(out, std::num::wrapping_add_usize(at, 14), d);

@@ -28,7 +28,11 @@ pub(crate) fn tell(fault: Fault, at: u64) {
             at,
             b": begin it with one of N R F E D S W H B C\n",
         ),
-        Fault::Kind => say(b"replay: kind outside 1 to 7", at, b": give one of the seven\n"),
+        Fault::Kind => say(
+            b"replay: kind outside 1 to 7",
+            at,
+            b": give one of the seven\n",
+        ),
         Fault::Length => say(
             b"replay: capture above 1,000,000 bytes",
             at,

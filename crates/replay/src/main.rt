@@ -8,9 +8,12 @@ mod out;
 mod sizes;
 mod stream;
 
+ghost use mathlib.Core.Path.{_≡_};
+ghost use lib.ListN.{length};
 use calls::Held;
 use faults::Fault;
 use libc::STDOUT_FILENO;
+use stream::Call;
 use stream::Stream;
 
 // Between two calls: what the calls act on, the stream, the bytes of results that wait, and why to stop, if so.
@@ -32,57 +35,75 @@ fn write_out(output: &[u8], waiting: usize) -> bool {
     io::write_all(STDOUT_FILENO, stream::part(output, 0, waiting))
 }
 
-// Where the next result goes: behind those that wait, or at the front once they are written.
-fn place(waiting: usize, size: usize, output: &[u8]) -> usize {
-    if waiting <= output.len() {
-        if size <= output.len() - waiting {
-            return waiting;
-        }
-    }
-    0
+// Where a result goes; not, where earlier ones had to be written first and could not be.
+struct Space {
+    at: usize,
+    free: bool,
 }
 
-fn stopped(s: State, stream: Stream, fault: Fault) -> State {
+// Behind the results that wait, or at the front once they are written.
+fn space_for(waiting: usize, size: usize, output: &[u8]) -> Space {
+    if waiting <= output.len() {
+        if size <= output.len() - waiting {
+            return Space {
+                at: waiting,
+                free: true,
+            };
+        }
+    }
+    Space {
+        at: 0,
+        free: write_out(output, waiting),
+    }
+}
+
+// The call's result goes to `at`.
+fn perform(held: Held, call: &[u8], at: usize, size: usize, output: &mut [u8]) -> Held {
+    if output.len() < at {
+        return held;
+    }
+    if output.len() - at < size {
+        return held;
+    }
+    let to = at + size;
+    calls::perform(held, call, &mut output[at..to])
+}
+
+fn stopped(s: State, stream: Stream, waiting: usize, fault: Fault) -> State {
     let held = s.held;
     State {
         held,
         stream,
-        waiting: s.waiting,
+        waiting,
         fault,
     }
 }
 
-// One call: read, and its result put behind those that wait.
-fn turn(s: State, input: &mut [u8], output: &mut [u8]) -> State {
-    let before = s.stream;
-    let next = stream::next(before, input);
-    let stream = next.stream;
-    let fault = next.fault;
-    if !goes(fault) {
-        return stopped(s, stream, fault);
+// The call's result put behind those that wait.
+fn answered(s: State, call: Call, bytes: &[u8], output: &mut [u8]) -> State {
+    let stream = call.stream;
+    let space = space_for(s.waiting, call.result, output);
+    if !space.free {
+        return stopped(s, stream, 0, Fault::Unwritten);
     }
-    let size = next.result;
-    let at = place(s.waiting, size, output);
-    if at < s.waiting {
-        if !write_out(output, s.waiting) {
-            return stopped(s, stream, Fault::Unwritten);
-        }
-    }
-    if output.len() < at {
-        return stopped(s, stream, Fault::Unwritten);
-    }
-    if output.len() - at < size {
-        return stopped(s, stream, Fault::Unwritten);
-    }
-    let to = at + size;
     let held = s.held;
-    let call = stream::part(input, stream.start, next.end);
     State {
-        held: calls::perform(held, call, &mut output[at..to]),
-        stream: stream::past(stream, next.end),
-        waiting: to,
+        held: perform(held, bytes, space.at, call.result, output),
+        stream: stream::past(stream, call.end),
+        waiting: std::num::wrapping_add_usize(space.at, call.result),
         fault: Fault::Nothing,
     }
+}
+
+fn turn(s: State, input: &mut [u8], output: &mut [u8]) -> State {
+    let before = s.stream;
+    let call = stream::next(before, input);
+    let stream = call.stream;
+    let fault = call.fault;
+    if !goes(fault) {
+        return stopped(s, stream, s.waiting, fault);
+    }
+    answered(s, call, stream::part(input, stream.start, call.end), output)
 }
 
 fn all(input: &mut [u8], output: &mut [u8]) -> State {
@@ -93,25 +114,33 @@ fn all(input: &mut [u8], output: &mut [u8]) -> State {
         fault: Fault::Nothing,
     };
     let mut turns = u64::MAX;
-    while goes(s.fault) {
-        if turns == 0 {
+    while 0 < turns {
+        s = turn(s, input, output);
+        let fault = s.fault;
+        if !goes(fault) {
             break;
         }
-        s = turn(s, input, output);
         turns -= 1;
     }
     s
 }
 
-// The largest call, C, and its result take 1,000,009 bytes each.
+// Room for the largest call, C, or for its result: 1,000,009 bytes each.
+fn buffer() -> [u8; 1048576]
+    ensures { λ r. ⌜ 1048576 ≡ length r ⌝ }
+{
+    [0; 1048576]
+}
+
 fn main() {
-    let mut input = [0; 1048576];
-    let mut output = [0; 1048576];
+    let mut input = buffer();
+    let mut output = buffer();
     let s = all(&mut input, &mut output);
     let stream = s.stream;
+    let fault = s.fault;
     if !write_out(&output, s.waiting) {
         faults::tell(Fault::Unwritten, stream.taken);
         return;
     }
-    faults::tell(s.fault, stream.taken);
+    faults::tell(fault, stream.taken);
 }

@@ -1,7 +1,7 @@
 // Bytes put into a result.
 const MARKER: u8 = 0xA5;
 
-// A lent buffer before its call.
+// What no call touches stays marked.
 pub(crate) fn fill(room: &mut [u8]) {
     let mut i = 0;
     while i < room.len() {

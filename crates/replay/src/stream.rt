@@ -1,6 +1,7 @@
 // The stream of calls: a buffer refilled from standard input, and the next call in it.
 use super::faults::Fault;
 use super::sizes;
+use super::sizes::Sizes;
 use libc::STDIN_FILENO;
 
 // The bytes at hand are those of the buffer from `start` to `end`; `taken` bytes of the stream came before them.
@@ -117,33 +118,46 @@ fn short(stream: Stream, fault: Fault) -> Call {
     }
 }
 
-// The next call whole: its command gives the size of its fixed part, and that the size of the rest.
-pub(crate) fn next(s: Stream, buffer: &mut [u8]) -> Call {
-    let first = filled(s, 1, buffer);
-    if at_hand(first) < 1 {
-        return short(first, Fault::End);
-    }
-    let fixed = sizes::fixed(sizes::byte(buffer, first.start));
-    if fixed == 0 {
-        return none(first, Fault::Command);
-    }
-    let second = filled(first, fixed, buffer);
-    if at_hand(second) < fixed {
-        return short(second, Fault::Cut);
-    }
-    let plan = sizes::plan(part(buffer, second.start, second.end));
-    let fault = plan.fault;
+// The call of these sizes at the front of the stream.
+fn whole(s: Stream, sizes: Sizes, buffer: &mut [u8]) -> Call {
+    let fault = sizes.fault;
     if !super::goes(fault) {
-        return none(second, fault);
+        return none(s, fault);
     }
-    let third = filled(second, plan.size, buffer);
-    if at_hand(third) < plan.size {
-        return short(third, Fault::Cut);
+    let full = filled(s, sizes.size, buffer);
+    if at_hand(full) < sizes.size {
+        return short(full, Fault::Cut);
     }
     Call {
-        stream: third,
-        end: std::num::wrapping_add_usize(third.start, plan.size),
-        result: plan.result,
+        stream: full,
+        end: std::num::wrapping_add_usize(full.start, sizes.size),
+        result: sizes.result,
         fault,
     }
+}
+
+// The fixed part of a call gives its sizes.
+fn measured(s: Stream, fixed: usize, buffer: &mut [u8]) -> Call {
+    let full = filled(s, fixed, buffer);
+    if at_hand(full) < fixed {
+        return short(full, Fault::Cut);
+    }
+    whole(
+        full,
+        sizes::plan(part(buffer, full.start, full.end)),
+        buffer,
+    )
+}
+
+// The next call; its command gives the size of its fixed part.
+pub(crate) fn next(s: Stream, buffer: &mut [u8]) -> Call {
+    let full = filled(s, 1, buffer);
+    if at_hand(full) < 1 {
+        return short(full, Fault::End);
+    }
+    let fixed = sizes::fixed(sizes::byte(buffer, full.start));
+    if fixed == 0 {
+        return none(full, Fault::Command);
+    }
+    measured(full, fixed, buffer)
 }
