@@ -3,7 +3,8 @@ use super::dumps;
 use super::out;
 use super::sizes::byte;
 use super::sizes::four;
-use super::stream::part;
+use super::stream::rest;
+use capture::Fed;
 use capture::Reader;
 use device::Device;
 use device::Event;
@@ -39,6 +40,14 @@ fn event_of(call: &[u8]) -> Event {
     event(byte(call, 1), byte(call, 2), byte(call, 3), byte(call, 4))
 }
 
+fn put_fed(out: &mut [u8], to: usize, fed: Fed) -> Reader {
+    let reader = fed.reader;
+    out::put(out, 1, fed.code);
+    out::put_all(out, 2, &out::fours(fed.consumed as u64, fed.written as u64));
+    dumps::put_reader(out, to, reader);
+    reader
+}
+
 // F: code, consumed, written, the room, the reader.
 fn feed(reader: Reader, call: &[u8], out: &mut [u8]) -> Reader {
     let from = 10;
@@ -46,22 +55,15 @@ fn feed(reader: Reader, call: &[u8], out: &mut [u8]) -> Reader {
         return reader;
     }
     let to = out.len() - 39;
-    let fed = capture::feed(reader, part(call, 5, call.len()), &mut out[from..to]);
-    let after = fed.reader;
-    out::put(out, 1, fed.code);
-    out::put_all(out, 2, &out::four(fed.consumed));
-    out::put_all(out, 6, &out::four(fed.written));
-    dumps::put_reader(out, to, after);
-    after
+    let fed = capture::feed(reader, rest(call, 5), &mut out[from..to]);
+    put_fed(out, to, fed)
 }
 
 // S: code, two answer bytes, the device.
 fn step(device: Device, call: &[u8], out: &mut [u8]) -> Device {
     let stepped = device::step(device, event_of(call));
     let after = stepped.device;
-    out::put(out, 1, stepped.code);
-    out::put(out, 2, stepped.first);
-    out::put(out, 3, stepped.second);
+    out::put_all(out, 1, &[stepped.code, stepped.first, stepped.second]);
     dumps::put_device(out, 4, after);
     after
 }
@@ -86,15 +88,19 @@ fn write_header(call: &[u8], out: &mut [u8]) {
     out::put(out, 1, code);
 }
 
-// B: code, and the event's record or zeros.
+// The event's record, zeros for none.
+fn encoded(r: Record) -> [u8; 4] {
+    match r {
+        Record::Valid(e) => record::encode(e),
+        Record::Refused(_) => [0; 4],
+    }
+}
+
+// B: code, kind, three operands.
 fn decode(call: &[u8], out: &mut [u8]) {
     let r = record::decode(byte(call, 1), byte(call, 2), byte(call, 3), byte(call, 4));
     out::put(out, 1, record::code(r));
-    let Record::Valid(e) = r else {
-        out::put_all(out, 2, &[0; 4]);
-        return;
-    };
-    out::put_all(out, 2, &record::encode(e));
+    out::put_all(out, 2, &encoded(r));
 }
 
 // C: the result of the run, the room.
@@ -103,39 +109,49 @@ fn run(call: &[u8], out: &mut [u8]) {
     if out.len() < from {
         return;
     }
-    let result = bench::lm89_run(part(call, 9, call.len()), &mut out[from..]);
-    out::put_all(out, 1, &out::four((result / 0x100000000) as usize));
-    out::put_all(out, 5, &out::four((result % 0x100000000) as usize));
+    let result = bench::lm89_run(rest(call, 9), &mut out[from..]);
+    out::put_all(out, 1, &out::eight(result));
 }
 
-fn with_reader(held: Held, reader: Reader) -> Held {
-    let device = held.device;
-    Held { reader, device }
-}
-
-fn with_device(held: Held, device: Device) -> Held {
-    let reader = held.reader;
-    Held { reader, device }
-}
-
-// One call. Its result begins with its command; what it is lent is marked before it.
-pub(crate) fn perform(held: Held, call: &[u8], out: &mut [u8]) -> Held {
-    let command = byte(call, 0);
-    let reader = held.reader;
-    let device = held.device;
-    out::fill(out);
-    out::put(out, 0, command);
+// The calls that set the reader: N, R and F.
+fn next_reader(command: u8, reader: Reader, call: &[u8], out: &mut [u8]) -> Reader {
     match command {
-        b'N' => return with_reader(held, capture::fresh()),
-        b'R' => return with_reader(held, dumps::reader_of(part(call, 1, call.len()))),
-        b'F' => return with_reader(held, feed(reader, call, out)),
-        b'D' => return with_device(held, dumps::device_of(part(call, 1, call.len()))),
-        b'S' => return with_device(held, step(device, call, out)),
+        b'N' => capture::fresh(),
+        b'R' => dumps::reader_of(rest(call, 1)),
+        _ => feed(reader, call, out),
+    }
+}
+
+// The calls that set the device: D and S.
+fn next_device(command: u8, device: Device, call: &[u8], out: &mut [u8]) -> Device {
+    match command {
+        b'D' => dumps::device_of(rest(call, 1)),
+        _ => step(device, call, out),
+    }
+}
+
+// The calls that set nothing.
+fn answer(command: u8, reader: Reader, call: &[u8], out: &mut [u8]) {
+    match command {
         b'E' => out::put(out, 1, capture::finish(reader)),
         b'W' => write_event(call, out),
         b'H' => write_header(call, out),
         b'B' => decode(call, out),
         _ => run(call, out),
     }
-    held
+}
+
+// One call. Its result begins with its command; what it is lent is marked before it.
+pub(crate) fn perform(held: Held, call: &[u8], out: &mut [u8]) -> Held {
+    let command = byte(call, 0);
+    let mut reader = held.reader;
+    let mut device = held.device;
+    out::fill(out);
+    out::put(out, 0, command);
+    match command {
+        b'N' | b'R' | b'F' => reader = next_reader(command, reader, call, out),
+        b'D' | b'S' => device = next_device(command, device, call, out),
+        _ => answer(command, reader, call, out),
+    }
+    Held { reader, device }
 }

@@ -3,7 +3,7 @@ ghost use Prim.Native.Nat.{_<_};
 use super::out;
 use super::sizes::byte;
 use super::sizes::four;
-use super::stream::part;
+use super::stream::rest;
 use capture::Reader;
 use conversion::Sensed;
 use device::Device;
@@ -80,15 +80,15 @@ pub(crate) fn reader_of(dump: &[u8]) -> Reader {
         carried: byte(dump, 9),
         bytes: [byte(dump, 10), byte(dump, 11), byte(dump, 12)],
         held: byte(dump, 13),
-        device: device_of(part(dump, 14, 39)),
+        device: device_of(rest(dump, 14)),
     }
 }
 
 pub(crate) fn put_device(out: &mut [u8], at: usize, d: Device) {
     let s = d.sensed;
-    let q = d.settings;
+    let settings = d.settings;
     let remote = word(s.remote);
-    let dump = [
+    let head = [
         d.variant,
         d.pointer,
         flag(d.pending),
@@ -100,45 +100,20 @@ pub(crate) fn put_device(out: &mut [u8], at: usize, d: Device) {
         s.faults,
         flag(s.llatch),
         flag(s.rlatch),
-        q[0],
-        q[1],
-        q[2],
-        q[3],
-        q[4],
-        q[5],
-        q[6],
-        q[7],
-        q[8],
-        q[9],
-        q[10],
-        q[11],
-        q[12],
-        q[13],
     ];
-    out::put_all(out, at, &dump);
+    out::put_all(out, at, &head);
+    out::put_all(out, std::num::wrapping_add_usize(at, 11), &settings);
 }
 
 pub(crate) fn put_reader(out: &mut [u8], at: usize, r: Reader) {
-    let count = out::four(r.count as usize);
-    let done = out::four(r.done as usize);
     let q = r.bytes;
-    let d = r.device;
-    let dump = [
-        r.head,
-        count[0],
-        count[1],
-        count[2],
-        count[3],
-        done[0],
-        done[1],
-        done[2],
-        done[3],
-        r.carried,
-        q[0],
-        q[1],
-        q[2],
-        r.held,
-    ];
-    out::put_all(out, at, &dump);
-    put_device(out, std::num::wrapping_add_usize(at, 14), d);
+    let device = r.device;
+    if out.len() < at {
+        return;
+    }
+    let dump = &mut out[at..];
+    out::put(dump, 0, r.head);
+    out::put_all(dump, 1, &out::fours(r.count as u64, r.done as u64));
+    out::put_all(dump, 9, &[r.carried, q[0], q[1], q[2], r.held]);
+    put_device(dump, 14, device);
 }

@@ -13,43 +13,48 @@ pub(crate) enum Fault {
     Unwritten,
 }
 
-fn say(what: &[u8], at: u64, remedy: &[u8]) {
-    io::write_all(STDERR_FILENO, what);
-    io::write_all(STDERR_FILENO, b" in the call at byte offset ");
-    io::print_decimal(STDERR_FILENO, at);
-    io::write_all(STDERR_FILENO, remedy);
+pub(crate) fn goes(fault: Fault) -> bool {
+    match fault {
+        Fault::Nothing => true,
+        _ => false,
+    }
 }
 
-// The message to standard error; the end of the stream between two calls is no fault.
-pub(crate) fn tell(fault: Fault, at: u64) {
+fn say(message: &[u8], at: u64) {
+    io::write_all(STDERR_FILENO, message);
+    io::write_all(STDERR_FILENO, b" (in the call at byte offset ");
+    io::print_decimal(STDERR_FILENO, at);
+    io::write_all(STDERR_FILENO, b")\n");
+}
+
+fn tell_call(fault: Fault, at: u64) {
     match fault {
         Fault::Command => say(
-            b"replay: unknown command",
+            b"replay: unknown command: give one of N R F E D S W H B C",
             at,
-            b": begin it with one of N R F E D S W H B C\n",
         ),
-        Fault::Kind => say(
-            b"replay: kind outside 1 to 7",
-            at,
-            b": give one of the seven\n",
-        ),
+        Fault::Kind => say(b"replay: kind outside 1 to 7: give one of the seven", at),
         Fault::Length => say(
-            b"replay: capture above 1,000,000 bytes",
+            b"replay: capture above 1,000,000 bytes: give a shorter one",
             at,
-            b": give a shorter one\n",
         ),
-        Fault::Room => say(b"replay: room above 1,000,000 bytes", at, b": give less\n"),
-        Fault::Cut => say(b"replay: the stream is cut", at, b": give the call whole\n"),
+        Fault::Room => say(b"replay: room above 1,000,000 bytes: give less", at),
+        _ => (),
+    }
+}
+
+// The end of the stream between two calls is no fault.
+pub(crate) fn tell(fault: Fault, at: u64) {
+    match fault {
+        Fault::Cut => say(b"replay: the stream is cut: give its last call whole", at),
         Fault::Unread => say(
-            b"replay: standard input cannot be read",
+            b"replay: standard input cannot be read: give a stream by '<' or a pipe",
             at,
-            b": give a stream by '<' or a pipe\n",
         ),
         Fault::Unwritten => say(
-            b"replay: standard output cannot be written",
+            b"replay: standard output cannot be written: the results are not complete",
             at,
-            b": the results are not complete\n",
         ),
-        _ => (),
+        _ => tell_call(fault, at),
     }
 }

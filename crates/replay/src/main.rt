@@ -24,21 +24,15 @@ struct State {
     fault: Fault,
 }
 
-fn goes(fault: Fault) -> bool {
-    match fault {
-        Fault::Nothing => true,
-        _ => false,
-    }
-}
-
 fn write_out(output: &[u8], waiting: usize) -> bool {
     io::write_all(STDOUT_FILENO, stream::part(output, 0, waiting))
 }
 
-// Where a result goes; not, where earlier ones had to be written first and could not be.
+// Where a result goes; nowhere, where earlier ones could not be written.
 struct Space {
     at: usize,
-    free: bool,
+    end: usize,
+    fault: Fault,
 }
 
 // Behind the results that wait, or at the front once they are written.
@@ -47,61 +41,62 @@ fn space_for(waiting: usize, size: usize, output: &[u8]) -> Space {
         if size <= output.len() - waiting {
             return Space {
                 at: waiting,
-                free: true,
+                end: waiting + size,
+                fault: Fault::Nothing,
             };
         }
     }
+    if write_out(output, waiting) {
+        return Space {
+            at: 0,
+            end: size,
+            fault: Fault::Nothing,
+        };
+    }
     Space {
         at: 0,
-        free: write_out(output, waiting),
+        end: 0,
+        fault: Fault::Unwritten,
     }
 }
 
-// The call's result goes to `at`.
-fn perform(held: Held, call: &[u8], at: usize, size: usize, output: &mut [u8]) -> Held {
-    if output.len() < at {
+fn perform(held: Held, call: &[u8], at: usize, end: usize, output: &mut [u8]) -> Held {
+    if output.len() < end {
         return held;
     }
-    if output.len() - at < size {
+    if end < at {
         return held;
     }
-    let to = at + size;
-    calls::perform(held, call, &mut output[at..to])
-}
-
-fn stopped(s: State, stream: Stream, waiting: usize, fault: Fault) -> State {
-    let held = s.held;
-    State {
-        held,
-        stream,
-        waiting,
-        fault,
-    }
+    calls::perform(held, call, &mut output[at..end])
 }
 
 // The call's result put behind those that wait.
 fn answered(s: State, call: Call, bytes: &[u8], output: &mut [u8]) -> State {
+    let held = s.held;
     let stream = call.stream;
     let space = space_for(s.waiting, call.result, output);
-    if !space.free {
-        return stopped(s, stream, 0, Fault::Unwritten);
-    }
-    let held = s.held;
+    let fault = space.fault;
     State {
-        held: perform(held, bytes, space.at, call.result, output),
+        held: perform(held, bytes, space.at, space.end, output),
         stream: stream::past(stream, call.end),
-        waiting: std::num::wrapping_add_usize(space.at, call.result),
-        fault: Fault::Nothing,
+        waiting: space.end,
+        fault,
     }
 }
 
 fn turn(s: State, input: &mut [u8], output: &mut [u8]) -> State {
+    let held = s.held;
     let before = s.stream;
     let call = stream::next(before, input);
     let stream = call.stream;
     let fault = call.fault;
-    if !goes(fault) {
-        return stopped(s, stream, s.waiting, fault);
+    if !faults::goes(fault) {
+        return State {
+            held,
+            stream,
+            waiting: s.waiting,
+            fault,
+        };
     }
     answered(s, call, stream::part(input, stream.start, call.end), output)
 }
@@ -117,7 +112,7 @@ fn all(input: &mut [u8], output: &mut [u8]) -> State {
     while 0 < turns {
         s = turn(s, input, output);
         let fault = s.fault;
-        if !goes(fault) {
+        if !faults::goes(fault) {
             break;
         }
         turns -= 1;

@@ -27,11 +27,21 @@ pub(crate) fn put_all(out: &mut [u8], at: usize, bytes: &[u8]) {
     bytes::copy(bytes, &mut out[at..]);
 }
 
-pub(crate) fn four(n: usize) -> [u8; 4] {
+// The first byte is the highest.
+pub(crate) fn eight(n: u64) -> [u8; 8] {
     [
+        (n / 0x100000000000000) as u8,
+        (n / 0x1000000000000 % 0x100) as u8,
+        (n / 0x10000000000 % 0x100) as u8,
+        (n / 0x100000000 % 0x100) as u8,
         (n / 0x1000000 % 0x100) as u8,
         (n / 0x10000 % 0x100) as u8,
         (n / 0x100 % 0x100) as u8,
         (n % 0x100) as u8,
     ]
+}
+
+// Two numbers of four bytes.
+pub(crate) fn fours(a: u64, b: u64) -> [u8; 8] {
+    eight(a % 0x100000000 * 0x100000000 + b % 0x100000000)
 }

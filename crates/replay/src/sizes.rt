@@ -32,8 +32,11 @@ pub(crate) fn four(bytes: &[u8], at: usize) -> u32
     two(bytes, at) * 0x10000 + two(bytes, at + 2)
 }
 
+// No fixed part is longer than R's.
+pub(crate) const LONGEST: usize = 40;
+
 // The command and what comes in every call of its kind; 0 for no command.
-pub(crate) fn fixed(command: u8) -> usize {
+fn fixed(command: u8) -> usize {
     match command {
         b'N' | b'E' => 1,
         b'R' => 40,
@@ -62,10 +65,10 @@ fn refused(fault: Fault) -> Sizes {
     }
 }
 
-// The plan of an event's call, if its kind is one.
-fn of_event(kind: u8, planned: Sizes) -> Sizes {
+// An event's call, if its kind is one.
+fn of_event(kind: u8, good: Sizes) -> Sizes {
     if (1 <= kind) & (kind <= 7) {
-        planned
+        good
     } else {
         refused(Fault::Kind)
     }
@@ -81,9 +84,8 @@ fn of_run(length: u32, room: u32) -> Sizes {
     sized(9 + length as usize, 9 + room as usize)
 }
 
-// Both sizes, from the fixed part at the front of the bytes.
-pub(crate) fn plan(bytes: &[u8]) -> Sizes {
-    let command = byte(bytes, 0);
+// By the fixed part, of which all is at hand.
+fn planned(command: u8, bytes: &[u8]) -> Sizes {
     match command {
         b'E' => sized(1, 2),
         b'R' => sized(40, 1),
@@ -96,4 +98,20 @@ pub(crate) fn plan(bytes: &[u8]) -> Sizes {
         b'C' => of_run(four(bytes, 1), four(bytes, 5)),
         _ => sized(1, 1),
     }
+}
+
+// Both sizes of the call that begins the bytes, which are fewer than LONGEST only at the stream's end.
+pub(crate) fn plan(bytes: &[u8]) -> Sizes {
+    if bytes.len() == 0 {
+        return refused(Fault::End);
+    }
+    let command = bytes[0];
+    let least = fixed(command);
+    if least == 0 {
+        return refused(Fault::Command);
+    }
+    if bytes.len() < least {
+        return refused(Fault::Cut);
+    }
+    planned(command, bytes)
 }

@@ -1,4 +1,5 @@
 // The stream of calls: a buffer refilled from standard input, and the next call in it.
+use super::faults;
 use super::faults::Fault;
 use super::sizes;
 use super::sizes::Sizes;
@@ -49,6 +50,13 @@ pub(crate) fn part(bytes: &[u8], from: usize, to: usize) -> &[u8] {
     &bytes[..0]
 }
 
+pub(crate) fn rest(bytes: &[u8], from: usize) -> &[u8] {
+    if from <= bytes.len() {
+        return &bytes[from..];
+    }
+    &bytes[..0]
+}
+
 // The bytes at hand, moved to the front.
 fn moved(s: Stream, buffer: &mut [u8]) -> Stream {
     let mut from = s.start;
@@ -75,7 +83,7 @@ fn more(s: Stream, buffer: &mut [u8]) -> Stream {
     }
     let got = libc::read(STDIN_FILENO, &mut buffer[end..]);
     let mut n = s;
-    n.end = end + io::count(got, &buffer[end..]);
+    n.end = std::num::wrapping_add_usize(end, io::count(got, buffer));
     n.failed = got < 0;
     n
 }
@@ -100,33 +108,25 @@ fn filled(s: Stream, size: usize, buffer: &mut [u8]) -> Stream {
     n
 }
 
+// Where bytes are missing because a read failed, that is the fault.
 fn none(stream: Stream, fault: Fault) -> Call {
     Call {
         stream,
         end: stream.start,
         result: 0,
-        fault,
-    }
-}
-
-// The stream gives no more; `fault` says what that means here.
-fn short(stream: Stream, fault: Fault) -> Call {
-    if stream.failed {
-        none(stream, Fault::Unread)
-    } else {
-        none(stream, fault)
+        fault: if stream.failed { Fault::Unread } else { fault },
     }
 }
 
 // The call of these sizes at the front of the stream.
 fn whole(s: Stream, sizes: Sizes, buffer: &mut [u8]) -> Call {
     let fault = sizes.fault;
-    if !super::goes(fault) {
+    if !faults::goes(fault) {
         return none(s, fault);
     }
     let full = filled(s, sizes.size, buffer);
     if at_hand(full) < sizes.size {
-        return short(full, Fault::Cut);
+        return none(full, Fault::Cut);
     }
     Call {
         stream: full,
@@ -136,28 +136,12 @@ fn whole(s: Stream, sizes: Sizes, buffer: &mut [u8]) -> Call {
     }
 }
 
-// The fixed part of a call gives its sizes.
-fn measured(s: Stream, fixed: usize, buffer: &mut [u8]) -> Call {
-    let full = filled(s, fixed, buffer);
-    if at_hand(full) < fixed {
-        return short(full, Fault::Cut);
-    }
+// The next call: its fixed part first, which gives its sizes.
+pub(crate) fn next(s: Stream, buffer: &mut [u8]) -> Call {
+    let ahead = filled(s, sizes::LONGEST, buffer);
     whole(
-        full,
-        sizes::plan(part(buffer, full.start, full.end)),
+        ahead,
+        sizes::plan(part(buffer, ahead.start, ahead.end)),
         buffer,
     )
-}
-
-// The next call; its command gives the size of its fixed part.
-pub(crate) fn next(s: Stream, buffer: &mut [u8]) -> Call {
-    let full = filled(s, 1, buffer);
-    if at_hand(full) < 1 {
-        return short(full, Fault::End);
-    }
-    let fixed = sizes::fixed(sizes::byte(buffer, full.start));
-    if fixed == 0 {
-        return none(full, Fault::Command);
-    }
-    measured(full, fixed, buffer)
 }
