@@ -1,27 +1,17 @@
-// The calls, each on the bytes of one call and on the room for its result, both whole.
+// The calls, each on the bytes of one call and on the room for its result, both whole. The reader and the device that they
+// act on are held as dumps, one behind the other.
 use super::dumps;
 use super::out;
 use super::sizes::byte;
 use super::sizes::four;
 use super::stream::rest;
 use capture::Fed;
-use capture::Reader;
-use device::Device;
 use device::Event;
 use record::Record;
 
-// What calls act on.
-pub(crate) struct Held {
-    pub(crate) reader: Reader,
-    pub(crate) device: Device,
-}
+const DEVICE: usize = 39;
 
-// All zeros.
-pub(crate) fn zeros() -> Held {
-    let reader = capture::fresh();
-    let device = reader.device;
-    Held { reader, device }
-}
+pub(crate) const HELD: usize = 64;
 
 // Kinds 1 to 7; operands that the kind does not name are left out.
 fn event(kind: u8, a: u8, b: u8, c: u8) -> Event {
@@ -40,32 +30,32 @@ fn event_of(call: &[u8]) -> Event {
     event(byte(call, 1), byte(call, 2), byte(call, 3), byte(call, 4))
 }
 
-fn put_fed(out: &mut [u8], to: usize, fed: Fed) -> Reader {
+fn put_fed(out: &mut [u8], to: usize, fed: Fed) {
     let reader = fed.reader;
     out::put(out, 1, fed.code);
     out::put_all(out, 2, &out::fours(fed.consumed as u64, fed.written as u64));
     dumps::put_reader(out, to, reader);
-    reader
 }
 
 // F: code, consumed, written, the room, the reader.
-fn feed(reader: Reader, call: &[u8], out: &mut [u8]) -> Reader {
+fn feed(held: &mut [u8], call: &[u8], out: &mut [u8]) {
     let from = 10;
     if out.len() < 49 {
-        return reader;
+        return;
     }
     let to = out.len() - 39;
-    let fed = capture::feed(reader, rest(call, 5), &mut out[from..to]);
-    put_fed(out, to, fed)
+    let fed = capture::feed(dumps::reader_of(held), rest(call, 5), &mut out[from..to]);
+    put_fed(out, to, fed);
+    out::put_all(held, 0, rest(out, to));
 }
 
 // S: code, two answer bytes, the device.
-fn step(device: Device, call: &[u8], out: &mut [u8]) -> Device {
-    let stepped = device::step(device, event_of(call));
-    let after = stepped.device;
+fn step(held: &mut [u8], call: &[u8], out: &mut [u8]) {
+    let stepped = device::step(dumps::device_of(rest(held, DEVICE)), event_of(call));
+    let device = stepped.device;
     out::put_all(out, 1, &[stepped.code, stepped.first, stepped.second]);
-    dumps::put_device(out, 4, after);
-    after
+    dumps::put_device(out, 4, device);
+    out::put_all(held, DEVICE, rest(out, 4));
 }
 
 // W: code, the room.
@@ -113,45 +103,26 @@ fn run(call: &[u8], out: &mut [u8]) {
     out::put_all(out, 1, &out::eight(result));
 }
 
-// The calls that set the reader: N, R and F.
-fn next_reader(command: u8, reader: Reader, call: &[u8], out: &mut [u8]) -> Reader {
-    match command {
-        b'N' => capture::fresh(),
-        b'R' => dumps::reader_of(rest(call, 1)),
-        _ => feed(reader, call, out),
-    }
+// E: code.
+fn finish(held: &[u8], out: &mut [u8]) {
+    out::put(out, 1, capture::finish(dumps::reader_of(held)));
 }
 
-// The calls that set the device: D and S.
-fn next_device(command: u8, device: Device, call: &[u8], out: &mut [u8]) -> Device {
+// One call. Its result begins with its command; what it is lent is marked before it.
+pub(crate) fn perform(held: &mut [u8], call: &[u8], out: &mut [u8]) {
+    let command = byte(call, 0);
+    out::fill(out);
+    out::put(out, 0, command);
     match command {
-        b'D' => dumps::device_of(rest(call, 1)),
-        _ => step(device, call, out),
-    }
-}
-
-// The calls that set nothing.
-fn answer(command: u8, reader: Reader, call: &[u8], out: &mut [u8]) {
-    match command {
-        b'E' => out::put(out, 1, capture::finish(reader)),
+        b'N' => dumps::put_reader(held, 0, capture::fresh()),
+        b'R' => out::put_all(held, 0, rest(call, 1)),
+        b'D' => out::put_all(held, DEVICE, rest(call, 1)),
+        b'F' => feed(held, call, out),
+        b'S' => step(held, call, out),
+        b'E' => finish(held, out),
         b'W' => write_event(call, out),
         b'H' => write_header(call, out),
         b'B' => decode(call, out),
         _ => run(call, out),
     }
-}
-
-// One call. Its result begins with its command; what it is lent is marked before it.
-pub(crate) fn perform(held: Held, call: &[u8], out: &mut [u8]) -> Held {
-    let command = byte(call, 0);
-    let mut reader = held.reader;
-    let mut device = held.device;
-    out::fill(out);
-    out::put(out, 0, command);
-    match command {
-        b'N' | b'R' | b'F' => reader = next_reader(command, reader, call, out),
-        b'D' | b'S' => device = next_device(command, device, call, out),
-        _ => answer(command, reader, call, out),
-    }
-    Held { reader, device }
 }

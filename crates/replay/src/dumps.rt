@@ -3,12 +3,15 @@ ghost use Prim.Native.Nat.{_<_};
 use super::out;
 use super::sizes::byte;
 use super::sizes::four;
+use super::sizes::two;
 use super::stream::rest;
 use capture::Reader;
 use conversion::Sensed;
 use device::Device;
 
-fn signed(word: u16) -> i16 {
+fn signed(word: u32) -> i16
+    requires { ⌜ word < 0x10000 ⌝ }
+{
     if word < 0x8000 {
         word as i16
     } else {
@@ -22,12 +25,6 @@ fn word(t: i16) -> u16 {
     } else {
         t as u16
     }
-}
-
-fn wide(b: u8) -> u16
-    ensures { λ r. ⌜ r < 0x100 ⌝ }
-{
-    b as u16
 }
 
 fn flag(on: bool) -> u8 {
@@ -56,7 +53,7 @@ fn settings(dump: &[u8]) -> [u8; 14] {
 pub(crate) fn device_of(dump: &[u8]) -> Device {
     let sensed = Sensed {
         local: byte(dump, 4),
-        remote: signed(wide(byte(dump, 5)) * 0x100 + wide(byte(dump, 6))),
+        remote: signed(two(dump, 5)),
         live: byte(dump, 7),
         faults: byte(dump, 8),
         llatch: byte(dump, 9) != 0,

@@ -10,15 +10,13 @@ mod stream;
 
 ghost use mathlib.Core.Path.{_≡_};
 ghost use lib.ListN.{length};
-use calls::Held;
 use faults::Fault;
 use libc::STDOUT_FILENO;
 use stream::Call;
 use stream::Stream;
 
-// Between two calls: what the calls act on, the stream, the bytes of results that wait, and why to stop, if so.
+// Between two calls: the stream, how many bytes of results wait, and why to stop, if so.
 struct State {
-    held: Held,
     stream: Stream,
     waiting: usize,
     fault: Fault,
@@ -60,57 +58,59 @@ fn space_for(waiting: usize, size: usize, output: &[u8]) -> Space {
     }
 }
 
-fn perform(held: Held, call: &[u8], at: usize, end: usize, output: &mut [u8]) -> Held {
+fn perform(held: &mut [u8], call: &[u8], at: usize, end: usize, output: &mut [u8]) {
     if output.len() < end {
-        return held;
+        return;
     }
     if end < at {
-        return held;
+        return;
     }
-    calls::perform(held, call, &mut output[at..end])
+    calls::perform(held, call, &mut output[at..end]);
 }
 
 // The call's result put behind those that wait.
-fn answered(s: State, call: Call, bytes: &[u8], output: &mut [u8]) -> State {
-    let held = s.held;
+fn answered(waiting: usize, call: Call, bytes: &[u8], held: &mut [u8], output: &mut [u8]) -> State {
     let stream = call.stream;
-    let space = space_for(s.waiting, call.result, output);
+    let space = space_for(waiting, call.result, output);
     let fault = space.fault;
+    perform(held, bytes, space.at, space.end, output);
     State {
-        held: perform(held, bytes, space.at, space.end, output),
         stream: stream::past(stream, call.end),
         waiting: space.end,
         fault,
     }
 }
 
-fn turn(s: State, input: &mut [u8], output: &mut [u8]) -> State {
-    let held = s.held;
+fn turn(s: State, held: &mut [u8], input: &mut [u8], output: &mut [u8]) -> State {
     let before = s.stream;
     let call = stream::next(before, input);
     let stream = call.stream;
     let fault = call.fault;
     if !faults::goes(fault) {
         return State {
-            held,
             stream,
             waiting: s.waiting,
             fault,
         };
     }
-    answered(s, call, stream::part(input, stream.start, call.end), output)
+    answered(
+        s.waiting,
+        call,
+        stream::part(input, stream.start, call.end),
+        held,
+        output,
+    )
 }
 
-fn all(input: &mut [u8], output: &mut [u8]) -> State {
+fn all(held: &mut [u8], input: &mut [u8], output: &mut [u8]) -> State {
     let mut s = State {
-        held: calls::zeros(),
         stream: stream::unread(),
         waiting: 0,
         fault: Fault::Nothing,
     };
     let mut turns = u64::MAX;
     while 0 < turns {
-        s = turn(s, input, output);
+        s = turn(s, held, input, output);
         let fault = s.fault;
         if !faults::goes(fault) {
             break;
@@ -128,9 +128,10 @@ fn buffer() -> [u8; 1048576]
 }
 
 fn main() {
+    let mut held = [0; calls::HELD];
     let mut input = buffer();
     let mut output = buffer();
-    let s = all(&mut input, &mut output);
+    let s = all(&mut held, &mut input, &mut output);
     let stream = s.stream;
     let fault = s.fault;
     if !write_out(&output, s.waiting) {

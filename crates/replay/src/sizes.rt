@@ -19,7 +19,7 @@ fn wide(b: u8) -> u32
     b as u32
 }
 
-fn two(bytes: &[u8], at: usize) -> u32
+pub(crate) fn two(bytes: &[u8], at: usize) -> u32
     requires { ⌜ at < 64 ⌝ }
     ensures { λ r. ⌜ r < 0x10000 ⌝ }
 {
