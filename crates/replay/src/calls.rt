@@ -5,9 +5,12 @@ use super::out;
 use super::sizes::byte;
 use super::sizes::four;
 use super::stream::rest;
-use capture::Fed;
+use capture::Reader;
+use device::Device;
 use device::Event;
 use record::Record;
+
+const READER: usize = 0;
 
 const DEVICE: usize = 39;
 
@@ -30,32 +33,26 @@ fn event_of(call: &[u8]) -> Event {
     event(byte(call, 1), byte(call, 2), byte(call, 3), byte(call, 4))
 }
 
-fn put_fed(out: &mut [u8], to: usize, fed: Fed) {
-    let reader = fed.reader;
-    out::put(out, 1, fed.code);
-    out::put_all(out, 2, &out::fours(fed.consumed as u64, fed.written as u64));
-    dumps::put_reader(out, to, reader);
-}
-
 // F: code, consumed, written, the room, the reader.
-fn feed(held: &mut [u8], call: &[u8], out: &mut [u8]) {
+fn feed(reader: Reader, call: &[u8], out: &mut [u8]) {
     let from = 10;
     if out.len() < 49 {
         return;
     }
     let to = out.len() - 39;
-    let fed = capture::feed(dumps::reader_of(held), rest(call, 5), &mut out[from..to]);
-    put_fed(out, to, fed);
-    out::put_all(held, 0, rest(out, to));
+    let fed = capture::feed(reader, rest(call, 5), &mut out[from..to]);
+    let after = fed.reader;
+    out::put(out, 1, fed.code);
+    out::put_all(out, 2, &out::fours(fed.consumed as u64, fed.written as u64));
+    dumps::put_reader(out, to, after);
 }
 
 // S: code, two answer bytes, the device.
-fn step(held: &mut [u8], call: &[u8], out: &mut [u8]) {
-    let stepped = device::step(dumps::device_of(rest(held, DEVICE)), event_of(call));
-    let device = stepped.device;
+fn step(device: Device, call: &[u8], out: &mut [u8]) {
+    let stepped = device::step(device, event_of(call));
+    let after = stepped.device;
     out::put_all(out, 1, &[stepped.code, stepped.first, stepped.second]);
-    dumps::put_device(out, 4, device);
-    out::put_all(held, DEVICE, rest(out, 4));
+    dumps::put_device(out, 4, after);
 }
 
 // W: code, the room.
@@ -103,9 +100,32 @@ fn run(call: &[u8], out: &mut [u8]) {
     out::put_all(out, 1, &out::eight(result));
 }
 
-// E: code.
-fn finish(held: &[u8], out: &mut [u8]) {
-    out::put(out, 1, capture::finish(dumps::reader_of(held)));
+// The calls that set what is held: R and D bring a dump, the results of F and S end with one.
+fn set(command: u8, held: &mut [u8], call: &[u8], out: &mut [u8]) {
+    match command {
+        b'N' => dumps::put_reader(held, READER, capture::fresh()),
+        b'R' => out::put_all(held, READER, rest(call, 1)),
+        b'D' => out::put_all(held, DEVICE, rest(call, 1)),
+        b'F' => {
+            feed(dumps::reader_of(held), call, out);
+            out::put_end(held, READER, out, 39);
+        }
+        _ => {
+            step(dumps::device_of(rest(held, DEVICE)), call, out);
+            out::put_end(held, DEVICE, out, 25);
+        }
+    }
+}
+
+// The calls that set nothing.
+fn answer(command: u8, held: &[u8], call: &[u8], out: &mut [u8]) {
+    match command {
+        b'E' => out::put(out, 1, capture::finish(dumps::reader_of(held))),
+        b'W' => write_event(call, out),
+        b'H' => write_header(call, out),
+        b'B' => decode(call, out),
+        _ => run(call, out),
+    }
 }
 
 // One call. Its result begins with its command; what it is lent is marked before it.
@@ -114,15 +134,7 @@ pub(crate) fn perform(held: &mut [u8], call: &[u8], out: &mut [u8]) {
     out::fill(out);
     out::put(out, 0, command);
     match command {
-        b'N' => dumps::put_reader(held, 0, capture::fresh()),
-        b'R' => out::put_all(held, 0, rest(call, 1)),
-        b'D' => out::put_all(held, DEVICE, rest(call, 1)),
-        b'F' => feed(held, call, out),
-        b'S' => step(held, call, out),
-        b'E' => finish(held, out),
-        b'W' => write_event(call, out),
-        b'H' => write_header(call, out),
-        b'B' => decode(call, out),
-        _ => run(call, out),
+        b'N' | b'R' | b'D' | b'F' | b'S' => set(command, held, call, out),
+        _ => answer(command, held, call, out),
     }
 }

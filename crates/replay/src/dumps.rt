@@ -102,15 +102,29 @@ pub(crate) fn put_device(out: &mut [u8], at: usize, d: Device) {
     out::put_all(out, std::num::wrapping_add_usize(at, 11), &settings);
 }
 
-pub(crate) fn put_reader(out: &mut [u8], at: usize, r: Reader) {
+fn reader_head(r: Reader) -> [u8; 14] {
+    let n = out::fours(r.count as u64, r.done as u64);
     let q = r.bytes;
+    [
+        r.head,
+        n[0],
+        n[1],
+        n[2],
+        n[3],
+        n[4],
+        n[5],
+        n[6],
+        n[7],
+        r.carried,
+        q[0],
+        q[1],
+        q[2],
+        r.held,
+    ]
+}
+
+pub(crate) fn put_reader(out: &mut [u8], at: usize, r: Reader) {
     let device = r.device;
-    if out.len() < at {
-        return;
-    }
-    let dump = &mut out[at..];
-    out::put(dump, 0, r.head);
-    out::put_all(dump, 1, &out::fours(r.count as u64, r.done as u64));
-    out::put_all(dump, 9, &[r.carried, q[0], q[1], q[2], r.held]);
-    put_device(dump, 14, device);
+    out::put_all(out, at, &reader_head(r));
+    put_device(out, std::num::wrapping_add_usize(at, 14), device);
 }

@@ -27,6 +27,14 @@ pub(crate) fn put_all(out: &mut [u8], at: usize, bytes: &[u8]) {
     bytes::copy(bytes, &mut out[at..]);
 }
 
+// The last `size` bytes.
+pub(crate) fn put_end(out: &mut [u8], at: usize, bytes: &[u8], size: usize) {
+    if size <= bytes.len() {
+        let from = bytes.len() - size;
+        put_all(out, at, &bytes[from..]);
+    }
+}
+
 // The first byte is the highest.
 pub(crate) fn eight(n: u64) -> [u8; 8] {
     [

@@ -35,20 +35,6 @@ pub(crate) fn four(bytes: &[u8], at: usize) -> u32
 // No fixed part is longer than R's.
 pub(crate) const LONGEST: usize = 40;
 
-// The command and what comes in every call of its kind; 0 for no command.
-fn fixed(command: u8) -> usize {
-    match command {
-        b'N' | b'E' => 1,
-        b'R' => 40,
-        b'D' => 26,
-        b'F' | b'S' | b'B' => 5,
-        b'W' => 7,
-        b'H' => 8,
-        b'C' => 9,
-        _ => 0,
-    }
-}
-
 fn sized(size: usize, result: usize) -> Sizes {
     Sizes {
         size,
@@ -57,61 +43,48 @@ fn sized(size: usize, result: usize) -> Sizes {
     }
 }
 
-fn refused(fault: Fault) -> Sizes {
+// A fixed part of this size that the program refuses.
+fn refused(size: usize, fault: Fault) -> Sizes {
     Sizes {
-        size: 0,
+        size,
         result: 0,
         fault,
     }
 }
 
 // An event's call, if its kind is one.
-fn of_event(kind: u8, good: Sizes) -> Sizes {
+fn of_event(kind: u8, size: usize, result: usize) -> Sizes {
     if (1 <= kind) & (kind <= 7) {
-        good
+        sized(size, result)
     } else {
-        refused(Fault::Kind)
+        refused(size, Fault::Kind)
     }
 }
 
 fn of_run(length: u32, room: u32) -> Sizes {
     if 1000000 < length {
-        return refused(Fault::Length);
+        return refused(9, Fault::Length);
     }
     if 1000000 < room {
-        return refused(Fault::Room);
+        return refused(9, Fault::Room);
     }
     sized(9 + length as usize, 9 + room as usize)
 }
 
-// By the fixed part, of which all is at hand.
-fn planned(command: u8, bytes: &[u8]) -> Sizes {
+// By the fixed part, which begins the bytes. Where that is cut the size is at least its own.
+pub(crate) fn plan(bytes: &[u8]) -> Sizes {
+    let command = byte(bytes, 0);
     match command {
+        b'N' => sized(1, 1),
         b'E' => sized(1, 2),
         b'R' => sized(40, 1),
         b'D' => sized(26, 1),
         b'F' => sized(5 + two(bytes, 1) as usize, 49 + two(bytes, 3) as usize),
-        b'S' => of_event(byte(bytes, 1), sized(5, 29)),
+        b'S' => of_event(byte(bytes, 1), 5, 29),
         b'B' => sized(5, 6),
-        b'W' => of_event(byte(bytes, 1), sized(7, 2 + two(bytes, 5) as usize)),
+        b'W' => of_event(byte(bytes, 1), 7, 2 + two(bytes, 5) as usize),
         b'H' => sized(8, 2 + two(bytes, 6) as usize),
         b'C' => of_run(four(bytes, 1), four(bytes, 5)),
-        _ => sized(1, 1),
+        _ => refused(1, Fault::Command),
     }
-}
-
-// Both sizes of the call that begins the bytes, which are fewer than LONGEST only at the stream's end.
-pub(crate) fn plan(bytes: &[u8]) -> Sizes {
-    if bytes.len() == 0 {
-        return refused(Fault::End);
-    }
-    let command = bytes[0];
-    let least = fixed(command);
-    if least == 0 {
-        return refused(Fault::Command);
-    }
-    if bytes.len() < least {
-        return refused(Fault::Cut);
-    }
-    planned(command, bytes)
 }

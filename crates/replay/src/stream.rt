@@ -1,5 +1,4 @@
 // The stream of calls: a buffer refilled from standard input, and the next call in it.
-use super::faults;
 use super::faults::Fault;
 use super::sizes;
 use super::sizes::Sizes;
@@ -121,9 +120,6 @@ fn none(stream: Stream, fault: Fault) -> Call {
 // The call of these sizes at the front of the stream.
 fn whole(s: Stream, sizes: Sizes, buffer: &mut [u8]) -> Call {
     let fault = sizes.fault;
-    if !faults::goes(fault) {
-        return none(s, fault);
-    }
     let full = filled(s, sizes.size, buffer);
     if at_hand(full) < sizes.size {
         return none(full, Fault::Cut);
@@ -139,6 +135,9 @@ fn whole(s: Stream, sizes: Sizes, buffer: &mut [u8]) -> Call {
 // The next call: its fixed part first, which gives its sizes.
 pub(crate) fn next(s: Stream, buffer: &mut [u8]) -> Call {
     let ahead = filled(s, sizes::LONGEST, buffer);
+    if at_hand(ahead) == 0 {
+        return none(ahead, Fault::End);
+    }
     whole(
         ahead,
         sizes::plan(part(buffer, ahead.start, ahead.end)),
