@@ -71,6 +71,14 @@ fn perform(held: &mut [u8], call: &[u8], at: usize, end: usize, output: &mut [u8
 // The call's result put behind those that wait.
 fn answered(waiting: usize, call: Call, bytes: &[u8], held: &mut [u8], output: &mut [u8]) -> State {
     let stream = call.stream;
+    let fault = call.fault;
+    if !faults::goes(fault) {
+        return State {
+            stream,
+            waiting,
+            fault,
+        };
+    }
     let space = space_for(waiting, call.result, output);
     let fault = space.fault;
     perform(held, bytes, space.at, space.end, output);
@@ -84,19 +92,11 @@ fn answered(waiting: usize, call: Call, bytes: &[u8], held: &mut [u8], output: &
 fn turn(s: State, held: &mut [u8], input: &mut [u8], output: &mut [u8]) -> State {
     let before = s.stream;
     let call = stream::next(before, input);
-    let stream = call.stream;
-    let fault = call.fault;
-    if !faults::goes(fault) {
-        return State {
-            stream,
-            waiting: s.waiting,
-            fault,
-        };
-    }
+    let after = call.stream;
     answered(
         s.waiting,
         call,
-        stream::part(input, stream.start, call.end),
+        stream::part(input, after.start, call.end),
         held,
         output,
     )
