@@ -10,55 +10,38 @@ mod stream;
 
 ghost use mathlib.Core.Path.{_≡_};
 ghost use lib.ListN.{length};
-use faults::Fault;
 use libc::STDOUT_FILENO;
-use stream::Call;
-use stream::Stream;
-
-// Between two calls: the stream, how many bytes of results wait, and why to stop, if so.
-struct State {
-    stream: Stream,
-    waiting: usize,
-    fault: Fault,
-}
+use stream::Place;
 
 fn write_out(output: &[u8], waiting: usize) -> bool {
     io::write_all(STDOUT_FILENO, stream::part(output, 0, waiting))
 }
 
-// Where a result goes; nowhere, where earlier ones could not be written.
-struct Space {
-    at: usize,
-    end: usize,
-    fault: Fault,
-}
-
-// Behind the results that wait, or at the front once they are written.
-fn space_for(waiting: usize, size: usize, output: &[u8]) -> Space {
+// Room for the result behind those that wait, or at the front once they are written; none where they could not be.
+fn spaced(p: Place, output: &[u8]) -> Place {
+    let waiting = p.waiting;
+    let size = p.result;
+    let mut n = p;
+    n.at = 0;
+    n.waiting = size;
     if waiting <= output.len() {
         if size <= output.len() - waiting {
-            return Space {
-                at: waiting,
-                end: waiting + size,
-                fault: Fault::Nothing,
-            };
+            n.at = waiting;
+            n.waiting = waiting + size;
+            return n;
         }
     }
     if write_out(output, waiting) {
-        return Space {
-            at: 0,
-            end: size,
-            fault: Fault::Nothing,
-        };
+        return n;
     }
-    Space {
-        at: 0,
-        end: 0,
-        fault: Fault::Unwritten,
-    }
+    n.waiting = 0;
+    n.fault = faults::UNWRITTEN;
+    n
 }
 
-fn perform(held: &mut [u8], call: &[u8], at: usize, end: usize, output: &mut [u8]) {
+fn perform(p: Place, held: &mut [u8], call: &[u8], output: &mut [u8]) {
+    let at = p.at;
+    let end = p.waiting;
     if output.len() < end {
         return;
     }
@@ -68,56 +51,27 @@ fn perform(held: &mut [u8], call: &[u8], at: usize, end: usize, output: &mut [u8
     calls::perform(held, call, &mut output[at..end]);
 }
 
-// The call's result put behind those that wait.
-fn answered(waiting: usize, call: Call, bytes: &[u8], held: &mut [u8], output: &mut [u8]) -> State {
-    let stream = call.stream;
-    let fault = call.fault;
-    if !faults::goes(fault) {
-        return State {
-            stream,
-            waiting,
-            fault,
-        };
+fn turn(p: Place, held: &mut [u8], input: &mut [u8], output: &mut [u8]) -> Place {
+    let next = stream::next(p, input);
+    if next.fault != 0 {
+        return next;
     }
-    let space = space_for(waiting, call.result, output);
-    let fault = space.fault;
-    perform(held, bytes, space.at, space.end, output);
-    State {
-        stream: stream::past(stream, call.end),
-        waiting: space.end,
-        fault,
-    }
+    let n = spaced(next, output);
+    perform(n, held, stream::call(n, input), output);
+    stream::past(n)
 }
 
-fn turn(s: State, held: &mut [u8], input: &mut [u8], output: &mut [u8]) -> State {
-    let before = s.stream;
-    let call = stream::next(before, input);
-    let after = call.stream;
-    answered(
-        s.waiting,
-        call,
-        stream::part(input, after.start, call.end),
-        held,
-        output,
-    )
-}
-
-fn all(held: &mut [u8], input: &mut [u8], output: &mut [u8]) -> State {
-    let mut s = State {
-        stream: stream::unread(),
-        waiting: 0,
-        fault: Fault::Nothing,
-    };
+fn all(held: &mut [u8], input: &mut [u8], output: &mut [u8]) -> Place {
+    let mut p = stream::first();
     let mut turns = u64::MAX;
-    while 0 < turns {
-        s = turn(s, held, input, output);
-        let fault = s.fault;
-        if !faults::goes(fault) {
+    while p.fault == 0 {
+        if turns == 0 {
             break;
         }
+        p = turn(p, held, input, output);
         turns -= 1;
     }
-    s
+    p
 }
 
 // Room for the largest call, C, or for its result: 1,000,009 bytes each.
@@ -131,12 +85,10 @@ fn main() {
     let mut held = [0; calls::HELD];
     let mut input = buffer();
     let mut output = buffer();
-    let s = all(&mut held, &mut input, &mut output);
-    let stream = s.stream;
-    let fault = s.fault;
-    if !write_out(&output, s.waiting) {
-        faults::tell(Fault::Unwritten, stream.taken);
+    let p = all(&mut held, &mut input, &mut output);
+    if !write_out(&output, p.waiting) {
+        faults::tell(faults::UNWRITTEN, p.taken);
         return;
     }
-    faults::tell(fault, stream.taken);
+    faults::tell(p.fault, p.taken);
 }

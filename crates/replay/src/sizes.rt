@@ -1,11 +1,11 @@
 // How long a call and its result are.
 ghost use Prim.Native.Nat.{_<_};
-use super::faults::Fault;
+use super::faults;
 
 pub(crate) struct Sizes {
     pub(crate) size: usize,
     pub(crate) result: usize,
-    pub(crate) fault: Fault,
+    pub(crate) fault: u8,
 }
 
 // 0 where there is none, so that no caller has to show that it is there.
@@ -39,12 +39,12 @@ fn sized(size: usize, result: usize) -> Sizes {
     Sizes {
         size,
         result,
-        fault: Fault::Nothing,
+        fault: 0,
     }
 }
 
 // A fixed part of this size that the program refuses.
-fn refused(size: usize, fault: Fault) -> Sizes {
+fn refused(size: usize, fault: u8) -> Sizes {
     Sizes {
         size,
         result: 0,
@@ -57,16 +57,16 @@ fn of_event(kind: u8, size: usize, result: usize) -> Sizes {
     if (1 <= kind) & (kind <= 7) {
         sized(size, result)
     } else {
-        refused(size, Fault::Kind)
+        refused(size, faults::KIND)
     }
 }
 
 fn of_run(length: u32, room: u32) -> Sizes {
     if 1000000 < length {
-        return refused(9, Fault::Length);
+        return refused(9, faults::LENGTH);
     }
     if 1000000 < room {
-        return refused(9, Fault::Room);
+        return refused(9, faults::ROOM);
     }
     sized(9 + length as usize, 9 + room as usize)
 }
@@ -85,6 +85,6 @@ pub(crate) fn plan(bytes: &[u8]) -> Sizes {
         b'W' => of_event(byte(bytes, 1), 7, 2 + two(bytes, 5) as usize),
         b'H' => sized(8, 2 + two(bytes, 6) as usize),
         b'C' => of_run(four(bytes, 1), four(bytes, 5)),
-        _ => refused(1, Fault::Command),
+        _ => refused(1, faults::COMMAND),
     }
 }

@@ -1,41 +1,43 @@
 // The stream of calls: a buffer refilled from standard input, and the next call in it.
-use super::faults::Fault;
+use super::faults;
 use super::sizes;
 use super::sizes::Sizes;
 use libc::STDIN_FILENO;
 
-// The bytes at hand are those of the buffer from `start` to `end`; `taken` bytes of the stream came before them.
-pub(crate) struct Stream {
+// The bytes at hand are those of the input buffer from `start` to `end`; `taken` bytes of the stream came before them. The
+// call that they begin with has `size` bytes, and its result `result`, which goes to the output buffer at `at`; the bytes of
+// that buffer before `waiting` are not written yet.
+pub(crate) struct Place {
     pub(crate) start: usize,
     pub(crate) end: usize,
     pub(crate) taken: u64,
     pub(crate) failed: bool,
-}
-
-// The next call, from the stream's start to `end`, and the size of its result; or why there is none.
-pub(crate) struct Call {
-    pub(crate) stream: Stream,
-    pub(crate) end: usize,
+    pub(crate) size: usize,
     pub(crate) result: usize,
-    pub(crate) fault: Fault,
+    pub(crate) at: usize,
+    pub(crate) waiting: usize,
+    pub(crate) fault: u8,
 }
 
-pub(crate) fn unread() -> Stream {
-    Stream {
+pub(crate) fn first() -> Place {
+    Place {
         start: 0,
         end: 0,
         taken: 0,
         failed: false,
+        size: 0,
+        result: 0,
+        at: 0,
+        waiting: 0,
+        fault: 0,
     }
 }
 
-// The stream once the bytes before `end` are taken.
-pub(crate) fn past(s: Stream, end: usize) -> Stream {
-    let mut n = s;
-    if s.start <= end {
-        n.taken = std::num::wrapping_add_u64(s.taken, (end - s.start) as u64);
-    }
-    n.start = end;
+// Past the call.
+pub(crate) fn past(p: Place) -> Place {
+    let mut n = p;
+    n.start = std::num::wrapping_add_usize(p.start, p.size);
+    n.taken = std::num::wrapping_add_u64(p.taken, p.size as u64);
     n
 }
 
@@ -56,11 +58,20 @@ pub(crate) fn rest(bytes: &[u8], from: usize) -> &[u8] {
     &bytes[..0]
 }
 
+// The bytes of the call.
+pub(crate) fn call(p: Place, buffer: &[u8]) -> &[u8] {
+    part(
+        buffer,
+        p.start,
+        std::num::wrapping_add_usize(p.start, p.size),
+    )
+}
+
 // The bytes at hand, moved to the front.
-fn moved(s: Stream, buffer: &mut [u8]) -> Stream {
-    let mut from = s.start;
+fn moved(p: Place, buffer: &mut [u8]) -> Place {
+    let mut from = p.start;
     let mut to = 0;
-    while from < s.end {
+    while from < p.end {
         if buffer.len() <= from {
             break;
         }
@@ -68,35 +79,35 @@ fn moved(s: Stream, buffer: &mut [u8]) -> Stream {
         from += 1;
         to += 1;
     }
-    let mut n = s;
+    let mut n = p;
     n.start = 0;
     n.end = to;
     n
 }
 
 // One read behind the bytes at hand, as many as come.
-fn more(s: Stream, buffer: &mut [u8]) -> Stream {
-    let end = s.end;
+fn more(p: Place, buffer: &mut [u8]) -> Place {
+    let end = p.end;
     if buffer.len() < end {
-        return s;
+        return p;
     }
     let got = libc::read(STDIN_FILENO, &mut buffer[end..]);
-    let mut n = s;
+    let mut n = p;
     n.end = std::num::wrapping_add_usize(end, io::count(got, buffer));
     n.failed = got < 0;
     n
 }
 
-fn at_hand(s: Stream) -> usize {
-    if s.end < s.start { 0 } else { s.end - s.start }
+fn at_hand(p: Place) -> usize {
+    if p.end < p.start { 0 } else { p.end - p.start }
 }
 
 // At least `size` bytes at hand, where the stream has them.
-fn filled(s: Stream, size: usize, buffer: &mut [u8]) -> Stream {
-    if size <= at_hand(s) {
-        return s;
+fn filled(p: Place, size: usize, buffer: &mut [u8]) -> Place {
+    if size <= at_hand(p) {
+        return p;
     }
-    let mut n = moved(s, buffer);
+    let mut n = moved(p, buffer);
     while n.end < size {
         let before = n.end;
         n = more(n, buffer);
@@ -107,40 +118,34 @@ fn filled(s: Stream, size: usize, buffer: &mut [u8]) -> Stream {
     n
 }
 
-// Where bytes are missing because a read failed, that is the fault.
-fn none(stream: Stream, fault: Fault) -> Call {
-    Call {
-        stream,
-        end: stream.start,
-        result: 0,
-        fault: if stream.failed { Fault::Unread } else { fault },
+// Bytes are missing; where that is because a read failed, that is the fault.
+fn short(p: Place, fault: u8) -> Place {
+    let mut n = p;
+    if p.failed {
+        n.fault = faults::UNREAD;
+        return n;
     }
+    n.fault = fault;
+    n
 }
 
-// The call of these sizes at the front of the stream.
-fn whole(s: Stream, sizes: Sizes, buffer: &mut [u8]) -> Call {
-    let fault = sizes.fault;
-    let full = filled(s, sizes.size, buffer);
-    if at_hand(full) < sizes.size {
-        return none(full, Fault::Cut);
+// The call of these sizes.
+fn whole(p: Place, sizes: Sizes, buffer: &mut [u8]) -> Place {
+    let mut n = filled(p, sizes.size, buffer);
+    if at_hand(n) < sizes.size {
+        return short(n, faults::CUT);
     }
-    Call {
-        stream: full,
-        end: std::num::wrapping_add_usize(full.start, sizes.size),
-        result: sizes.result,
-        fault,
-    }
+    n.size = sizes.size;
+    n.result = sizes.result;
+    n.fault = sizes.fault;
+    n
 }
 
 // The next call: its fixed part first, which gives its sizes.
-pub(crate) fn next(s: Stream, buffer: &mut [u8]) -> Call {
-    let ahead = filled(s, sizes::LONGEST, buffer);
-    if at_hand(ahead) == 0 {
-        return none(ahead, Fault::End);
+pub(crate) fn next(p: Place, buffer: &mut [u8]) -> Place {
+    let n = filled(p, sizes::LONGEST, buffer);
+    if at_hand(n) == 0 {
+        return short(n, faults::END);
     }
-    whole(
-        ahead,
-        sizes::plan(part(buffer, ahead.start, ahead.end)),
-        buffer,
-    )
+    whole(n, sizes::plan(part(buffer, n.start, n.end)), buffer)
 }

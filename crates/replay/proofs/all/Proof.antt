@@ -6,22 +6,19 @@ use Rattle.replay.proofs.all.Statement.{statement}
 use Rattle.replay.proofs.all.Tie as tie
 
 abbrev Inv-loop : tie.InvT-loop
-Inv-loop held₀ input₀ output₀ s₀ turns₀ held input output s turns = (length held ≡ length held₀) × (length input ≡ length input₀) × (length output ≡ length output₀)
+Inv-loop held₀ input₀ output₀ p₀ turns₀ held input output p turns = (length held ≡ length held₀) × (length input ≡ length input₀) × (length output ≡ length output₀)
 
 abbrev μ-loop : tie.MeasureT-loop
-μ-loop held₀ input₀ output₀ s₀ turns₀ held input output s turns = turns
+μ-loop held₀ input₀ output₀ p₀ turns₀ held input output p turns = turns
 
-unread-requires : tie.Need-unread-requires Inv-loop μ-loop
-unread-requires c κs = search needs
+first-requires : tie.Need-first-requires Inv-loop μ-loop
+first-requires c κs = search needs
 
 loop-holds : tie.Need-loop-holds Inv-loop μ-loop
 loop-holds c = search needs
 
 turn-requires : tie.Need-turn-requires Inv-loop μ-loop
 turn-requires c κs = search needs
-
-goes-requires : tie.Need-goes-requires Inv-loop μ-loop
-goes-requires c κs = search needs
 
 sub-turns : tie.Need-sub-turns Inv-loop μ-loop
 sub-turns c = search needs
@@ -62,10 +59,9 @@ all-spec =
     (tie.spec
     Inv-loop
     μ-loop
-    unread-requires
+    first-requires
     loop-holds
     turn-requires
-    goes-requires
     sub-turns
     loop-less
     loop-again

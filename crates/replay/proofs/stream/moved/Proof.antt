@@ -7,10 +7,10 @@ use Rattle.replay.proofs.stream.moved.Statement.{statement}
 use Rattle.replay.proofs.stream.moved.Tie as tie
 
 abbrev Inv-loop : tie.InvT-loop
-Inv-loop s buffer₀ from₀ to₀ buffer from to = (to ≤ from) × (length buffer ≡ length buffer₀)
+Inv-loop p buffer₀ from₀ to₀ buffer from to = (to ≤ from) × (length buffer ≡ length buffer₀)
 
 abbrev μ-loop : tie.MeasureT-loop
-μ-loop s buffer₀ from₀ to₀ buffer from to = length buffer₀ - from
+μ-loop p buffer₀ from₀ to₀ buffer from to = length buffer₀ - from
 
 loop-holds : tie.Need-loop-holds Inv-loop μ-loop
 loop-holds c = search needs
