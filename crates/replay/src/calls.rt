@@ -100,20 +100,25 @@ fn run(call: &[u8], out: &mut [u8]) {
     out::put_all(out, 1, &out::eight(result));
 }
 
-// The calls that set what is held: R and D bring a dump, the results of F and S end with one.
+// The results of F and S end with the dump to hold from then on.
+fn feed_held(held: &mut [u8], call: &[u8], out: &mut [u8]) {
+    feed(dumps::reader_of(held), call, out);
+    out::put_end(held, READER, out, 39);
+}
+
+fn step_held(held: &mut [u8], call: &[u8], out: &mut [u8]) {
+    step(dumps::device_of(rest(held, DEVICE)), call, out);
+    out::put_end(held, DEVICE, out, 25);
+}
+
+// The calls that set what is held.
 fn set(command: u8, held: &mut [u8], call: &[u8], out: &mut [u8]) {
     match command {
         b'N' => dumps::put_reader(held, READER, capture::fresh()),
         b'R' => out::put_all(held, READER, rest(call, 1)),
         b'D' => out::put_all(held, DEVICE, rest(call, 1)),
-        b'F' => {
-            feed(dumps::reader_of(held), call, out);
-            out::put_end(held, READER, out, 39);
-        }
-        _ => {
-            step(dumps::device_of(rest(held, DEVICE)), call, out);
-            out::put_end(held, DEVICE, out, 25);
-        }
+        b'F' => feed_held(held, call, out),
+        _ => step_held(held, call, out),
     }
 }
 
