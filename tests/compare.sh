@@ -17,6 +17,7 @@ both_streams=("${both_streams[@]/%/.stream}")
 all_streams=("${all[@]/#/$here/}")
 all_streams=("${all_streams[@]/%/.stream}")
 lines_least=99
+export ASAN_OPTIONS=detect_leaks=0
 export PYTHONPYCACHEPREFIX=$PWD/$here/pycache
 
 stop() {
@@ -37,16 +38,18 @@ command_of() {
 model() {
     if [ $# -gt 0 ]; then
         printf '%s' "$1"
-    elif [ -x build/bin/replay ]; then
-        printf 'build/bin/replay'
-    elif [ -x target/bin/replay ]; then
+    else
+        [ -x target/bin/replay ] || rt check replay >"$here/replay.log" 2>&1 || {
+            cat "$here/replay.log" >&2
+            return 1
+        }
         command_of target/bin/replay
     fi
 }
 
 make_programs() {
     cc "${strict[@]}" -o "$here/streams" tests/compare/streams.c
-    cc "${strict[@]}" -o "$here/second" second/second.c second/replay.c
+    cc "${strict[@]}" -fsanitize=address,undefined -fno-sanitize-recover=all -o "$here/second" second/second.c second/replay.c
     cc "${strict[@]}" -o "$here/second-listing" second/second.c second/listing.c
     compile_link "$here/library" tests/compare/library.c || stop "tests/compare/library.c does not compile or link, see above"
     for theme in "${all[@]}"; do
@@ -79,9 +82,8 @@ measure_lines() {
         }' "$here/second.c.gcov" || stop "less than $lines_least percent of the lines of second/second.c reached"
 }
 
-replay=$(model "$@")
-[ -n "$replay" ] || stop "no replay program over the model in build/bin or target/bin: run scripts/build.sh"
 mkdir -p "$here"
+replay=$(model "$@") || stop "the replay program over the model is not proved, see above"
 make_programs
 printf 'second/ and %s:\n' "$replay"
 python3 tests/compare/compare.py "$here/second" "$replay" "${all_streams[@]}" ||
