@@ -3,7 +3,7 @@
 -- `one-step`: two results that meet the promise are equal, device included.
 -- Assumes nothing.
 use Prim.Native.Nat.{ℕ}
-use mathlib.Core.Path.{_≡_, refl, sym, ap, _∙_}
+use mathlib.Core.Path.{_≡_, sym, _∙_}
 use mathlib.Core.Bool.{true, false, _&&_}
 use Rattle.laws.proofs.Choices.{by-test, and-left, and-right}
 use Rattle.device.specs.declared.Device.{Device}
@@ -11,11 +11,9 @@ use Rattle.device.specs.declared.Event.{Event}
 use Rattle.device.specs.Ranges.{variantOf, rangedOf}
 use Rattle.device.specs.Step.{stepOf, steppedOf, effectOf}
 use Rattle.device.proofs.Steps.{step-effect}
-use Rattle.record.specs.declared.Record.{Record}
 use Rattle.record.specs.declared.Record.the-variants.{Valid, Refused}
 use Rattle.record.specs.declared.Refusal.{Refusal}
 use Rattle.record.specs.Record.{decodeOf, codeOf}
-use Rattle.record.specs.Apply.{onRecordOf, applyOf}
 use Rattle.record.proofs.RoundTrip.{only-those}
 use Rattle.bench_step.specs.declared.Answer.{Answer}
 use Rattle.bench_step.specs.BenchStep.{refusalOf, takenOf, stepBytesOf}
@@ -39,15 +37,6 @@ module _ (d : Device) (kind a b c : ℕ) where
       let t = only-those kind a b c e q in
       let s = step-effect d e (and-left (variantOf (d .variant)) (rangedOf d) r) (and-right (variantOf (d .variant)) (rangedOf d) r) (t .operands) in
       is-step e q ∙ rw s
-
-  -- in range it is what the record does
-  pub is-applied : (variantOf (d .variant) && rangedOf d) ≡ true → stepBytesOf d kind a b c ≡ takenOf (applyOf d kind a b c)
-  unfolding applyOf
-  is-applied r = cases (decodeOf kind a b c) refl
-    where
-      cases : (q : Record) → decodeOf kind a b c ≡ q → stepBytesOf d kind a b c ≡ takenOf (onRecordOf d (decodeOf kind a b c))
-      cases (Valid e) q = is-effect e r q ∙ sym (ap (λ (x : Record). takenOf (onRecordOf d x)) q)
-      cases (Refused why) q = is-refused why r q ∙ sym (ap (λ (x : Record). takenOf (onRecordOf d x)) q)
 
   -- the promise of the step where the device stands
   pub one-step : {exit exit′ : Device} {r s : Answer}

@@ -2,6 +2,7 @@
 ghost use mathlib.Core.Path.{_≡_};
 ghost use Rattle.bench_step.specs.BenchStep.{refusalOf, stepBytesOf, powerOnOf};
 use device::Device;
+use record::Record;
 
 // A step's code and its two answer bytes.
 #[repr(C)]
@@ -37,14 +38,18 @@ pub fn step_bytes(d: Device, kind: u8, a: u8, b: u8, c: u8) -> Taken
     if !(device::ranges::variant(d.variant) & device::ranges::ranged(d)) {
         return refusal(d, 8);
     }
-    let s = record::apply(d, kind, a, b, c);
-    let device = s.device;
+    let r = record::decode(kind, a, b, c);
+    let Record::Valid(e) = r else {
+        return refusal(d, record::code(r));
+    };
+    let o = device::effect(d, e);
+    let device = o.device;
     Taken {
         device,
         answer: Answer {
-            code: s.code,
-            first: s.first,
-            second: s.second,
+            code: 0,
+            first: device::answer(o),
+            second: o.byte,
         },
     }
 }

@@ -10,15 +10,15 @@ use lib.ListN.{length, getD, take, drop, length-append, length-drop}
 use lib.Seq.{drop-cons, length-take-le}
 use borrow.Author.Tests.{eqb-true, eqb-false, ltb-true, ltb-false, leb-true, leb-false, lt-ltb}
 use Rattle.laws.proofs.Choices.{and-left, and-right}
-use Rattle.device.specs.declared.Stepped.{Stepped}
+use Rattle.device.specs.declared.Event.{Event}
 use Rattle.record.specs.declared.Record.{Record}
 use Rattle.record.specs.declared.Record.the-variants.{Valid, Refused}
+use Rattle.record.specs.declared.Refusal.{Refusal}
 use Rattle.record.specs.declared.Refusal.the-variants.{Kind, Operand}
 use Rattle.record.specs.Record.{decodeOf, codeOf}
-use Rattle.record.specs.Apply.{onRecordOf, applyOf}
 use Rattle.capture.specs.declared.Reader.{Reader}
-use Rattle.capture.specs.Sensor.{Sensor}
-use Rattle.capture.specs.Reader.{Turn, quietOf, holdOf, judgedOf, recordOf, turnOf, rangesOf, feedOf, Out, joinOf, Meets}
+use Rattle.capture.specs.Sensor.{Sensor, sensorEffect}
+use Rattle.capture.specs.Reader.{quietOf, holdOf, answeredOf, judgedOf, recordOf, turnOf, rangesOf, feedOf, Out, joinOf, Meets}
 use Rattle.capture.specs.Loops.{Going, Onward, waitsOf, carryingOf, betweenOf, Took}
 use Rattle.capture.proofs.InRange.{ranges, below-limit, limit-all, turn-ranges}
 use Rattle.capture.proofs.Outcomes.{join-join}
@@ -67,69 +67,43 @@ itself s w e = rw (three-eta (s .bytes) e, w .carried)
 -- ---- that byte
 
 module _ (s : Reader) (w : Waiting s) (c : ℕ) where
-  abbrev pub judgedRecord : Record
-  judgedRecord = decodeOf (getD (s .bytes) 0 0) (getD (s .bytes) 1 0) (getD (s .bytes) 2 0) c
+  abbrev pub recordAt : Record
+  recordAt = decodeOf (getD (s .bytes) 0 0) (getD (s .bytes) 1 0) (getD (s .bytes) 2 0) c
 
-  abbrev pub applied : Stepped
-  applied = applyOf (s .device) (getD (s .bytes) 0 0) (getD (s .bytes) 1 0) (getD (s .bytes) 2 0) c
-
-  judged : turnOf s c ≡ judgedOf s judgedRecord
+  judged : turnOf s c ≡ judgedOf s recordAt
   unfolding turnOf recordOf
   judged = simp (w .held, w .head, w .carried, lt-ltb (s .done) (s .count) (w .counted))
 
-  abbrev answered : Stepped → Turn
-  answered t = record { reader = betweenOf s (s .done + 1) (t .device); pair = true; first = t .first; second = t .second }
+  refuses : (why : Refusal) → recordAt ≡ Refused why → turnOf s c ≡ quietOf (holdOf s (codeOf (Refused why)))
+  refuses why q = judged ∙ ap (judgedOf s) q
 
-  on-refused : (q : Record) → (codeOf q ≡ 0 → ⊥) → judgedOf s q ≡ quietOf (holdOf s (codeOf q))
-  unfolding codeOf
-  on-refused (Valid e) n = absurd (n refl)
-  on-refused (Refused why) n = refl
+  takes : (e : Event) → recordAt ≡ Valid e → turnOf s c ≡ answeredOf s (sensorEffect (s .device) e)
+  takes e q = judged ∙ ap (judgedOf s) q
 
-  on-valid : (q : Record) → codeOf q ≡ 0 → judgedOf s q ≡ answered (onRecordOf (s .device) q)
-  unfolding codeOf
-  on-valid (Valid e) z = refl
-  on-valid (Refused Kind) z = absurd (omega arith)
-  on-valid (Refused Operand) z = absurd (omega arith)
-
-  same-code : (q : Record) → onRecordOf (s .device) q .code ≡ codeOf q
-  unfolding codeOf
-  same-code (Valid e) = refl
-  same-code (Refused why) = refl
-
-  applied-code : applied .code ≡ codeOf judgedRecord
-  unfolding applyOf
-  applied-code = same-code judgedRecord
-
-  refuses : (codeOf judgedRecord ≡ 0 → ⊥) → turnOf s c ≡ quietOf (holdOf s (codeOf judgedRecord))
-  refuses n = judged ∙ on-refused judgedRecord n
-
-  takes : codeOf judgedRecord ≡ 0 → turnOf s c ≡ answered applied
-  unfolding applyOf
-  takes z = judged ∙ on-valid judgedRecord z
+lasting : (why : Refusal) → codeOf (Refused why) ≡ 0 → ⊥
+unfolding codeOf
+lasting Kind z = omega arith
+lasting Operand z = omega arith
 
 module _ {o : Out} {input entry answers : List ℕ} {s : Reader} {at written : ℕ} (w : Waiting s) (g : Going o input entry answers s at written) (l : at < length input) where
   abbrev byte : ℕ
   byte = getD input at 0
 
-  pub ends-refused : (codeOf (judgedRecord s w byte) ≡ 0 → ⊥)
-      → Meets o (record { code = codeOf (judgedRecord s w byte); consumed = at; written = written; reader = holdOf s (codeOf (judgedRecord s w byte)) }) entry answers
-  ends-refused n = refused g l (sym (refuses s w byte n)) n
+  pub ends-refused : (why : Refusal) → recordAt s w byte ≡ Refused why
+      → Meets o (record { code = codeOf (Refused why); consumed = at; written = written; reader = holdOf s (codeOf (Refused why)) }) entry answers
+  ends-refused why q = refused g l (sym (refuses s w byte why q)) (lasting why)
 
-  pub ends-full : codeOf (judgedRecord s w byte) ≡ 0 → length answers - written < 2
+  pub ends-full : (e : Event) → recordAt s w byte ≡ Valid e → length answers - written < 2
       → Meets o (record { code = 7; consumed = at; written = written; reader = s }) entry answers
-  ends-full z n = full g l (sym (takes s w byte z)) (w .held) refl n
-
-  pub ends-applied : (applied s w byte .code ≡ 0 → ⊥)
-      → Meets o (record { code = applied s w byte .code; consumed = at; written = written; reader = holdOf s (applied s w byte .code) }) entry answers
-  ends-applied n = rw (applied-code s w byte) (ends-refused (rw (applied-code s w byte) at n))
+  ends-full e q n = full g l (sym (takes s w byte e q)) (w .held) refl n
 
   -- a record taken, its pair behind the answers
-  pub stepped : {after : List ℕ} → byte < 256 → applied s w byte .code ≡ 0 → 2 ≤ length answers - written
-      → after ≡ take written answers ++ (applied s w byte .first ∷ applied s w byte .second ∷ drop 2 (drop written answers))
-      → Going o input entry after (betweenOf s (s .done + 1) (applied s w byte .device)) (at + 1) (written + 2)
-  stepped small z n e =
-      let turn = takes s w byte (sym (applied-code s w byte) ∙ z) in
-      paired g l (sym turn) (rw turn at (turn-ranges s byte small (g .ok))) (w .held) refl n e
+  pub stepped : (e : Event) {after : List ℕ} → byte < 256 → recordAt s w byte ≡ Valid e → 2 ≤ length answers - written
+      → after ≡ take written answers ++ (sensorEffect (s .device) e .first ∷ sensorEffect (s .device) e .second ∷ drop 2 (drop written answers))
+      → Going o input entry after (betweenOf s (s .done + 1) (sensorEffect (s .device) e .sensor)) (at + 1) (written + 2)
+  stepped e small q n k =
+      let turn = takes s w byte e q in
+      paired g l (sym turn) (rw turn at (turn-ranges s byte small (g .ok))) (w .held) refl n k
 
 -- ---- the next three bytes
 
@@ -210,27 +184,31 @@ run-start s input before from start r w e l n f h =
     }
 
 module _ {s : Reader} {input before : List ℕ} {from start : ℕ} {answers : List ℕ} {kind a b : ℕ} {device : Sensor} {done at written : ℕ}
-    (r : Running s input before from start answers kind a b device done at written) {t : Stepped} (e : t ≡ applyOf device kind a b (getD input at 0)) where
+    (r : Running s input before from start answers kind a b device done at written) where
   abbrev state : Reader
   state = carryingOf s done device kind a b
 
   here : Waiting state
   here = record { held = r .waits .held; head = r .waits .head; carried = refl; counted = r .counted }
 
-  pub run-refused : (t .code ≡ 0 → ⊥) → Took input before s from start answers (record { code = t .code; consumed = at; written = written; reader = holdOf state (t .code) })
-  run-refused n = rw e (record {
-    onward = λ z. absurd (rw e at n z);
-    forward = λ z. absurd (rw e at n z);
-    ends = λ x o entry g. ends-applied here (r .onward o entry g) (r .inside) x;
-  })
+  pub run-refused : (why : Refusal) → decodeOf kind a b (getD input at 0) ≡ Refused why
+      → Took input before s from start answers (record { code = codeOf (Refused why); consumed = at; written = written; reader = holdOf state (codeOf (Refused why)) })
+  run-refused why q = record {
+    onward = λ z. absurd (lasting why z);
+    forward = λ z. absurd (lasting why z);
+    ends = λ x o entry g. ends-refused here (r .onward o entry g) (r .inside) why q;
+  }
 
-  module _ (small : (i : ℕ) → getD input i 0 < 256) (z : t .code ≡ 0) {after : List ℕ}
-      (laid : after ≡ take written answers ++ (t .first ∷ t .second ∷ drop 2 (drop written answers))) where
-    done-one : Onward input before s from start after (betweenOf s (done + 1) (t .device)) (at + 1) (written + 2)
-    done-one o entry g =
-        rw e (stepped here (r .onward o entry g) (r .inside) (small at) (rw e at z) (omega (arith, r .room)) (rw e at laid))
+  -- a record that is an event, its pair laid behind the answers
+  module _ (small : (i : ℕ) → getD input i 0 < 256) (e : Event) (q : decodeOf kind a b (getD input at 0) ≡ Valid e) {after : List ℕ}
+      (laid : after ≡ take written answers ++ (sensorEffect device e .first ∷ sensorEffect device e .second ∷ drop 2 (drop written answers))) where
+    abbrev next : Sensor
+    next = sensorEffect device e .sensor
 
-    pub run-left : Took input before s from start after (record { code = 0; consumed = at + 1; written = written + 2; reader = betweenOf s (done + 1) (t .device) })
+    done-one : Onward input before s from start after (betweenOf s (done + 1) next) (at + 1) (written + 2)
+    done-one o entry g = stepped here (r .onward o entry g) (r .inside) e (small at) q (omega (arith, r .room)) laid
+
+    pub run-left : Took input before s from start after (record { code = 0; consumed = at + 1; written = written + 2; reader = betweenOf s (done + 1) next })
     run-left = record {
       onward = λ _. done-one;
       forward = λ _. omega (arith, r .forward);
@@ -238,10 +216,10 @@ module _ {s : Reader} {input before : List ℕ} {from start : ℕ} {answers : Li
     }
 
     pub run-again : done + 1 < s .count → at + 1 + 4 ≤ length input → written + 2 + 2 ≤ length after → length after ≡ length answers
-        → Running s input before from start after (getD input (at + 1) 0) (getD input (at + 1 + 1) 0) (getD input (at + 1 + 2) 0) (t .device) (done + 1) (at + 1 + 3) (written + 2)
+        → Running s input before from start after (getD input (at + 1) 0) (getD input (at + 1 + 1) 0) (getD input (at + 1 + 2) 0) next (done + 1) (at + 1 + 3) (written + 2)
     run-again d l n k = record {
       waits = r .waits;
-      onward = λ o entry g. next-three s (done + 1) (t .device) small (r .waits .held) (r .waits .head) d l (done-one o entry g);
+      onward = λ o entry g. next-three s (done + 1) next small (r .waits .held) (r .waits .head) d l (done-one o entry g);
       forward = omega (arith, r .forward);
       inside = omega arith;
       counted = d;

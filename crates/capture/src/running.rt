@@ -4,13 +4,14 @@ ghost use mathlib.Core.Bool.{true};
 ghost use mathlib.Core.List.{_∷_};
 ghost use Prim.Native.Nat.{_+_, _≤_, _<_};
 ghost use lib.ListN.{length, drop};
-ghost use Rattle.capture.specs.Reader.{rangesOf};
+ghost use Rattle.capture.specs.Reader.{rangesOf, holdOf, reportOf};
 ghost use Rattle.capture.specs.Loops.{waitsOf, carryingOf, betweenOf, Took, Full};
 use super::Fed;
 use super::Reader;
 use super::report;
 use super::taking;
 use device::Device;
+use record::Record;
 
 // The pair to the front of the room that is lent.
 fn put_pair(room: &mut [u8], first: u8, second: u8)
@@ -45,6 +46,13 @@ fn between(s: Reader, done: u32, device: Device) -> Reader
     n
 }
 
+// A refused record: the state holds its code.
+fn refused(s: Reader, code: u8, at: usize, written: usize) -> Fed
+    ensures { λ r. ⌜ r ≡ reportOf code at written (holdOf s code) ⌝ }
+{
+    report(code, at, written, taking::hold(s, code))
+}
+
 // A record's fourth byte with no room for its answers: 3 or 4, else 7.
 pub(crate) fn no_room(s: Reader, c: u8, at: usize, written: usize) -> Fed
     requires { ⌜ rangesOf s ≡ true ⌝ }
@@ -52,11 +60,11 @@ pub(crate) fn no_room(s: Reader, c: u8, at: usize, written: usize) -> Fed
     ensures { λ r. ⌜ Full s c at written r ⌝ }
 {
     let q = s.bytes;
-    let code = record::code(record::decode(q[0], q[1], q[2], c));
-    if code == 0 {
-        return report(7, at, written, s);
-    }
-    report(code, at, written, taking::hold(s, code))
+    let r = record::decode(q[0], q[1], q[2], c);
+    let Record::Valid(_) = r else {
+        return refused(s, record::code(r), at, written);
+    };
+    report(7, at, written, s)
 }
 
 // From a record whose fourth byte is next, for as long as whole records follow: a code that ends the call, or 0.
@@ -76,17 +84,14 @@ pub(crate) fn run(s: Reader, input: &[u8], from: usize, answers: &mut [u8], star
     let mut at = from;
     let mut written = start;
     loop {
-        let t = record::apply(device, kind, a, b, input[at]);
-        if t.code != 0 {
-            return report(
-                t.code,
-                at,
-                written,
-                taking::hold(carrying(s, done, device, kind, a, b), t.code),
-            );
-        }
-        put_pair(&mut answers[written..], t.first, t.second);
-        device = t.device;
+        let r = record::decode(kind, a, b, input[at]);
+        let Record::Valid(e) = r else {
+            let n = carrying(s, done, device, kind, a, b);
+            return refused(n, record::code(r), at, written);
+        };
+        let o = device::effect(device, e);
+        put_pair(&mut answers[written..], device::answer(o), o.byte);
+        device = o.device;
         done = done + 1;
         written = written + 2;
         at = at + 1;

@@ -1,4 +1,3 @@
 pub mod Record
 pub mod Writer
 pub mod Codes
-pub mod Apply

@@ -2,11 +2,8 @@
 ghost use mathlib.Core.Path.{_≡_};
 ghost use lib.ListN.{length};
 ghost use Rattle.record.specs.Record.{decodeOf, codeOf, admitOf, encodeOf};
-ghost use Rattle.record.specs.Apply.{applyOf};
 ghost use Rattle.record.specs.Writer.{headerOf, writeEventOf, writeHeaderOf, Wrote};
-use device::Device;
 use device::Event;
-use device::Stepped;
 
 // Why a record is refused.
 pub enum Refusal {
@@ -55,29 +52,6 @@ pub fn decode(kind: u8, a: u8, b: u8, c: u8) -> Record
         6 => admit((b == 0) & (c == 0), Event::Open(a)),
         7 => admit((a == 0) & ((b == 0) & (c == 0)), Event::PowerOn),
         _ => Record::Refused(Refusal::Kind),
-    }
-}
-
-// A record on a device, whatever its values: 3 or 4 with nothing changed, or the event's effect.
-pub fn apply(d: Device, kind: u8, a: u8, b: u8, c: u8) -> Stepped
-    ensures { λ r. ⌜ r ≡ applyOf d kind a b c ⌝ }
-{
-    let r = decode(kind, a, b, c);
-    let Record::Valid(e) = r else {
-        return Stepped {
-            code: code(r),
-            first: 0,
-            second: 0,
-            device: d,
-        };
-    };
-    let o = device::effect(d, e);
-    let device = o.device;
-    Stepped {
-        code: 0,
-        first: device::answer(o),
-        second: o.byte,
-        device,
     }
 }
 

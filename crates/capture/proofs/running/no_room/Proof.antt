@@ -1,7 +1,8 @@
 -- Assumes nothing.
 use borrow.Author.Needs.{needs}
-use mathlib.Core.Path.{sym, _∙_}
-use Rattle.capture.proofs.Records.{waiting, ends-full, ends-refused}
+use mathlib.Core.Path.{sym, ap, _∙_}
+use Rattle.record.specs.Record.{decodeOf}
+use Rattle.capture.proofs.Records.{waiting, ends-refused, ends-full}
 use Rattle.capture.proofs.running.no_room.Statement.{statement}
 use Rattle.capture.proofs.running.no_room.Tie as tie
 
@@ -17,30 +18,31 @@ array-read-decode-3 c = search needs
 decode-requires : tie.Need-decode-requires
 decode-requires c κs = search needs
 
+enum-told : tie.Need-enum-told
+enum-told c = search needs
+
+enum-told-2 : tie.Need-enum-told-2
+enum-told-2 c = search needs
+
 code-requires : tie.Need-code-requires
 code-requires c κs = search needs
+
+refused-requires : tie.Need-refused-requires
+refused-requires c κs = search needs
+
+returns : tie.Need-returns
+returns c = λ o input entry answers g l e n.
+    let w = waiting (c .before .before .before .before .before .before .args .s) (c .before .before .before .before .before .before .pre .0) (c .before .before .before .before .before .before .pre .1) in
+    let told = c .before .before .enum-told2 .given .1 in
+    rw (c .refused .ensures, c .before .code .ensures, told) (ends-refused w g l _ (ap (decodeOf _ _ _) e ∙ sym (c .before .before .before .before .decode .ensures) ∙ told))
 
 report-requires : tie.Need-report-requires
 report-requires c κs = search needs
 
-returns : tie.Need-returns
-returns c = λ o input entry answers g l e n.
-    let a = c .before .before .before .before .before .args .s in
-    let w = waiting a (c .before .before .before .before .before .pre .0) (c .before .before .before .before .before .pre .1) in
-    rw (c .report .ensures) (ends-full w g l (rw e (sym (c .before .before .code .ensures ∙ rw (c .before .before .before .decode .ensures)) ∙ c .before .if1 .taken)) n)
-
-hold-requires : tie.Need-hold-requires
-hold-requires c κs = search needs
-
-report-requires-2 : tie.Need-report-requires-2
-report-requires-2 c κs = search needs
-
 returns-2 : tie.Need-returns-2
 returns-2 c = λ o input entry answers g l e n.
-    let a = c .before .before .before .before .before .before .args .s in
-    let w = waiting a (c .before .before .before .before .before .before .pre .0) (c .before .before .before .before .before .before .pre .1) in
-    rw (c .report2 .ensures, c .before .hold .ensures, c .before .before .before .code .ensures, c .before .before .before .before .decode .ensures)
-    (rw e at (ends-refused w g l (λ z. c .before .before .if1 .left (c .before .before .before .code .ensures ∙ rw (c .before .before .before .before .decode .ensures) (rw e at z)))))
+    let w = waiting (c .before .before .before .before .before .args .s) (c .before .before .before .before .before .pre .0) (c .before .before .before .before .before .pre .1) in
+    rw (c .report .ensures) (ends-full w g l _ (ap (decodeOf _ _ _) e ∙ sym (c .before .before .before .decode .ensures) ∙ c .before .enum-told .given .1) n)
 
 pub no-room-spec : {M : Type 1} → statement M
 no-room-spec =
@@ -50,9 +52,10 @@ no-room-spec =
     array-read-decode-2
     array-read-decode-3
     decode-requires
+    enum-told
+    enum-told-2
     code-requires
-    report-requires
+    refused-requires
     returns
-    hold-requires
-    report-requires-2
+    report-requires
     returns-2)

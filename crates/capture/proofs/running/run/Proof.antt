@@ -4,7 +4,7 @@ use Prim.Native.Nat.{_+_, _-_, _≤_, _<_}
 use borrow.Rule.Slice.PartMut.{putMid}
 use native.Mathlib.Omega.{arith}
 use lib.ListN.{length}
-use mathlib.Core.Path.{_∙_}
+use mathlib.Core.Path.{sym, _∙_}
 use mathlib.Core.List.{[], _∷_}
 use Rattle.laws.proofs.Buffers.{laid}
 use Rattle.capture.proofs.Records.{Running, goes-on, run-start, run-refused, run-left, run-again, same-room}
@@ -18,9 +18,9 @@ abbrev μ-loop : tie.MeasureT-loop
 μ-loop s input from answers₀ start kind₀ a₀ b₀ device₀ done₀ at₀ written₀ answers kind a b device done at written = length input - at
 
 -- behind the loop's test: another record is counted, its four bytes are there, and so is room
-more : (c : tie.Else2 Inv-loop μ-loop)
-    → (c .before .before .before .before .before .before .before .before .before .before .before .loop .done + 1 < c .before .before .before .before .before .before .before .before .before .before .before .before .before .before .before .before .args .s .count) × ((4 ≤ length (c .before .before .before .before .before .before .before .before .before .before .before .before .before .before .before .before .args .input .now) - (c .before .before .before .before .before .before .before .before .before .before .before .loop .at + 1)) × (2 ≤ length (putMid (c .before .before .before .before .before .before .before .before .before .before .before .loop .written) (length (c .before .before .before .before .before .before .before .before .before .before .before .loop .answers) - c .before .before .before .before .before .before .before .before .before .before .before .loop .written) (c .before .before .before .before .before .before .before .before .before .before .before .loop .answers) (c .before .before .before .before .before .put-pair .last .0)) - (c .before .before .before .before .before .before .before .before .before .before .before .loop .written + 2)))
-more c = goes-on (c .before .before .before .before .before .before .before .before .before .before .before .before .before .before .before .before .args .s .count) (c .before .before .before .before .before .before .before .before .before .before .before .loop .done + 1) (length (c .before .before .before .before .before .before .before .before .before .before .before .before .before .before .before .before .args .input .now)) (c .before .before .before .before .before .before .before .before .before .before .before .loop .at + 1) (length (putMid (c .before .before .before .before .before .before .before .before .before .before .before .loop .written) (length (c .before .before .before .before .before .before .before .before .before .before .before .loop .answers) - c .before .before .before .before .before .before .before .before .before .before .before .loop .written) (c .before .before .before .before .before .before .before .before .before .before .before .loop .answers) (c .before .before .before .before .before .put-pair .last .0))) (c .before .before .before .before .before .before .before .before .before .before .before .loop .written + 2) (c .if2 .left)
+more : (c : tie.Else1 Inv-loop μ-loop)
+    → (c .before .before .before .before .before .before .before .before .before .before .before .before .before .before .loop .done + 1 < c .before .before .before .before .before .before .before .before .before .before .before .before .before .before .before .before .before .before .before .args .s .count) × ((4 ≤ length (c .before .before .before .before .before .before .before .before .before .before .before .before .before .before .before .before .before .before .before .args .input .now) - (c .before .before .before .before .before .before .before .before .before .before .before .before .before .before .loop .at + 1)) × (2 ≤ length (putMid (c .before .before .before .before .before .before .before .before .before .before .before .before .before .before .loop .written) (length (c .before .before .before .before .before .before .before .before .before .before .before .before .before .before .loop .answers) - c .before .before .before .before .before .before .before .before .before .before .before .before .before .before .loop .written) (c .before .before .before .before .before .before .before .before .before .before .before .before .before .before .loop .answers) (c .before .before .before .before .before .put-pair .last .0)) - (c .before .before .before .before .before .before .before .before .before .before .before .before .before .before .loop .written + 2)))
+more c = goes-on (c .before .before .before .before .before .before .before .before .before .before .before .before .before .before .before .before .before .before .before .args .s .count) (c .before .before .before .before .before .before .before .before .before .before .before .before .before .before .loop .done + 1) (length (c .before .before .before .before .before .before .before .before .before .before .before .before .before .before .before .before .before .before .before .args .input .now)) (c .before .before .before .before .before .before .before .before .before .before .before .before .before .before .loop .at + 1) (length (putMid (c .before .before .before .before .before .before .before .before .before .before .before .before .before .before .loop .written) (length (c .before .before .before .before .before .before .before .before .before .before .before .before .before .before .loop .answers) - c .before .before .before .before .before .before .before .before .before .before .before .before .before .before .loop .written) (c .before .before .before .before .before .before .before .before .before .before .before .before .before .before .loop .answers) (c .before .before .before .before .before .put-pair .last .0))) (c .before .before .before .before .before .before .before .before .before .before .before .before .before .before .loop .written + 2) (c .if1 .left)
 
 array-read-kind : tie.Need-array-read-kind Inv-loop μ-loop
 array-read-kind c = search needs
@@ -37,26 +37,37 @@ loop-holds c =
     let p = c .before .before .before .before .pre in
     run-start (a .s) (a .input .now) (a .answers .now) (a .from) (a .start) (p .0) (p .1 .0) (search needs) (p .1 .1 .0) (p .1 .1 .1) (omega arith) (omega arith)
 
-shared-slice-read-apply : tie.Need-shared-slice-read-apply Inv-loop μ-loop
-shared-slice-read-apply c = search needs
+shared-slice-read-decode : tie.Need-shared-slice-read-decode Inv-loop μ-loop
+shared-slice-read-decode c = search needs
 
-apply-requires : tie.Need-apply-requires Inv-loop μ-loop
-apply-requires c κs = search needs
+decode-requires : tie.Need-decode-requires Inv-loop μ-loop
+decode-requires c κs = search needs
+
+enum-known-r : tie.Need-enum-known-r Inv-loop μ-loop
+enum-known-r c = search needs
+
+enum-told : tie.Need-enum-told Inv-loop μ-loop
+enum-told c = search needs
 
 carrying-requires : tie.Need-carrying-requires Inv-loop μ-loop
 carrying-requires c κs = search needs
 
-hold-requires : tie.Need-hold-requires Inv-loop μ-loop
-hold-requires c κs = search needs
+code-requires : tie.Need-code-requires Inv-loop μ-loop
+code-requires c κs = search needs
 
-report-requires : tie.Need-report-requires Inv-loop μ-loop
-report-requires c κs = search needs
+refused-requires : tie.Need-refused-requires Inv-loop μ-loop
+refused-requires c κs = search needs
 
 same-length : tie.Need-same-length Inv-loop μ-loop
 same-length c = search needs
 
 returns : tie.Need-returns Inv-loop μ-loop
-returns c = rw (c .report .ensures, c .before .hold .ensures, c .before .before .carrying .ensures) (run-refused (c .before .before .before .before .before .before .before .loop .inv) (c .before .before .before .before .before .apply .ensures) (c .before .before .before .if1 .taken))
+returns c =
+    let told = c .before .before .before .enum-told .given .1 in
+    rw (c .refused .ensures, c .before .code .ensures, c .before .before .carrying .ensures, told) (run-refused (c .before .before .before .before .before .before .before .loop .inv) _ (sym (c .before .before .before .before .before .decode .ensures) ∙ told))
+
+effect-requires : tie.Need-effect-requires Inv-loop μ-loop
+effect-requires c κs = search needs
 
 sub-put-pair : tie.Need-sub-put-pair Inv-loop μ-loop
 sub-put-pair c = search needs
@@ -66,6 +77,9 @@ part-put-pair-start c = search needs
 
 part-put-pair-end : tie.Need-part-put-pair-end Inv-loop μ-loop
 part-put-pair-end c = search needs
+
+answer-requires : tie.Need-answer-requires Inv-loop μ-loop
+answer-requires c κs = search needs
 
 put-pair-requires : tie.Need-put-pair-requires Inv-loop μ-loop
 put-pair-requires c κs = search needs
@@ -79,41 +93,41 @@ add-written c = search needs
 add-at : tie.Need-add-at Inv-loop μ-loop
 add-at c = search needs
 
-sub-if2 : tie.Need-sub-if2 Inv-loop μ-loop
-sub-if2 c = search needs
+sub-if1 : tie.Need-sub-if1 Inv-loop μ-loop
+sub-if1 c = search needs
 
-sub-if2-2 : tie.Need-sub-if2-2 Inv-loop μ-loop
-sub-if2-2 c = search needs
+sub-if1-2 : tie.Need-sub-if1-2 Inv-loop μ-loop
+sub-if1-2 c = search needs
 
 between-requires : tie.Need-between-requires Inv-loop μ-loop
 between-requires c κs = search needs
 
-report-requires-2 : tie.Need-report-requires-2 Inv-loop μ-loop
-report-requires-2 c κs = search needs
+report-requires : tie.Need-report-requires Inv-loop μ-loop
+report-requires c κs = search needs
 
 same-length-2 : tie.Need-same-length-2 Inv-loop μ-loop
-same-length-2 c = same-room (c .before .before .before .before .before .before .before .before .before .before .before .before .before .loop .inv) (c .before .before .before .before .before .before .before .before .before .before .before .apply .ensures) (λ i. c .before .before .before .before .before .before .before .before .before .before .before .before .shared-slice-known2 .given i .fits) (c .before .before .before .before .before .before .before .before .before .if1 .left) (laid (c .before .before .before .before .before .before .before .before .before .before .before .before .before .loop .answers) (c .before .before .before .before .before .before .before .put-pair .last .0) (_ ∷ _ ∷ []) _ (c .before .before .before .before .before .before .before .put-pair .ensures)) ∙ c .before .before .before .before .before .before .before .before .before .before .before .before .before .loop .inv .long
+same-length-2 c = same-room (c .before .before .before .before .before .before .before .before .before .before .before .before .before .before .before .before .loop .inv) (λ i. c .before .before .before .before .before .before .before .before .before .before .before .before .before .before .before .shared-slice-known2 .given i .fits) _ (sym (c .before .before .before .before .before .before .before .before .before .before .before .before .before .before .decode .ensures) ∙ c .before .before .before .before .before .before .before .before .before .before .before .before .r .given .1) (rw (c .before .before .before .before .before .before .before .before .answer .ensures, c .before .before .before .before .before .before .before .before .before .before .effect .ensures) at (laid (c .before .before .before .before .before .before .before .before .before .before .before .before .before .before .before .before .loop .answers) (c .before .before .before .before .before .before .before .put-pair .last .0) (_ ∷ _ ∷ []) _ (c .before .before .before .before .before .before .before .put-pair .ensures))) ∙ c .before .before .before .before .before .before .before .before .before .before .before .before .before .before .before .before .loop .inv .long
 
 returns-2 : tie.Need-returns-2 Inv-loop μ-loop
-returns-2 c = rw (c .report2 .ensures, c .before .between .ensures) (run-left (c .before .before .before .before .before .before .before .before .before .before .before .before .before .loop .inv) (c .before .before .before .before .before .before .before .before .before .before .before .apply .ensures) (λ i. c .before .before .before .before .before .before .before .before .before .before .before .before .shared-slice-known2 .given i .fits) (c .before .before .before .before .before .before .before .before .before .if1 .left) (laid (c .before .before .before .before .before .before .before .before .before .before .before .before .before .loop .answers) (c .before .before .before .before .before .before .before .put-pair .last .0) (_ ∷ _ ∷ []) _ (c .before .before .before .before .before .before .before .put-pair .ensures)))
+returns-2 c = rw (c .report .ensures, c .before .between .ensures, c .before .before .before .before .before .before .before .before .before .before .effect .ensures) (run-left (c .before .before .before .before .before .before .before .before .before .before .before .before .before .before .before .before .loop .inv) (λ i. c .before .before .before .before .before .before .before .before .before .before .before .before .before .before .before .shared-slice-known2 .given i .fits) _ (sym (c .before .before .before .before .before .before .before .before .before .before .before .before .before .before .decode .ensures) ∙ c .before .before .before .before .before .before .before .before .before .before .before .before .r .given .1) (rw (c .before .before .before .before .before .before .before .before .answer .ensures, c .before .before .before .before .before .before .before .before .before .before .effect .ensures) at (laid (c .before .before .before .before .before .before .before .before .before .before .before .before .before .before .before .before .loop .answers) (c .before .before .before .before .before .before .before .put-pair .last .0) (_ ∷ _ ∷ []) _ (c .before .before .before .before .before .before .before .put-pair .ensures))))
 
 shared-slice-read-kind : tie.Need-shared-slice-read-kind Inv-loop μ-loop
-shared-slice-read-kind c = omega (arith, more (c .before) .1 .0, c .before .before .before .before .before .before .before .before .before .before .before .before .loop .inv .input-fits)
+shared-slice-read-kind c = omega (arith, more (c .before) .1 .0, c .before .before .before .before .before .before .before .before .before .before .before .before .before .before .before .loop .inv .input-fits)
 
 add-a : tie.Need-add-a Inv-loop μ-loop
-add-a c = omega (arith, more (c .before) .1 .0, c .before .before .before .before .before .before .before .before .before .before .before .before .loop .inv .input-fits)
+add-a c = omega (arith, more (c .before) .1 .0, c .before .before .before .before .before .before .before .before .before .before .before .before .before .before .before .loop .inv .input-fits)
 
 shared-slice-read-a : tie.Need-shared-slice-read-a Inv-loop μ-loop
-shared-slice-read-a c = omega (arith, more (c .before .before) .1 .0, c .before .before .before .before .before .before .before .before .before .before .before .before .before .loop .inv .input-fits)
+shared-slice-read-a c = omega (arith, more (c .before .before) .1 .0, c .before .before .before .before .before .before .before .before .before .before .before .before .before .before .before .before .loop .inv .input-fits)
 
 add-b : tie.Need-add-b Inv-loop μ-loop
-add-b c = omega (arith, more (c .before .before) .1 .0, c .before .before .before .before .before .before .before .before .before .before .before .before .before .loop .inv .input-fits)
+add-b c = omega (arith, more (c .before .before) .1 .0, c .before .before .before .before .before .before .before .before .before .before .before .before .before .before .before .before .loop .inv .input-fits)
 
 shared-slice-read-b : tie.Need-shared-slice-read-b Inv-loop μ-loop
-shared-slice-read-b c = omega (arith, more (c .before .before .before) .1 .0, c .before .before .before .before .before .before .before .before .before .before .before .before .before .before .loop .inv .input-fits)
+shared-slice-read-b c = omega (arith, more (c .before .before .before) .1 .0, c .before .before .before .before .before .before .before .before .before .before .before .before .before .before .before .before .before .loop .inv .input-fits)
 
 add-at-2 : tie.Need-add-at-2 Inv-loop μ-loop
-add-at-2 c = omega (arith, more (c .before .before .before) .1 .0, c .before .before .before .before .before .before .before .before .before .before .before .before .before .before .loop .inv .input-fits)
+add-at-2 c = omega (arith, more (c .before .before .before) .1 .0, c .before .before .before .before .before .before .before .before .before .before .before .before .before .before .before .before .before .loop .inv .input-fits)
 
 loop-less : tie.Need-loop-less Inv-loop μ-loop
 loop-less c = search needs
@@ -121,8 +135,8 @@ loop-less c = search needs
 loop-again : tie.Need-loop-again Inv-loop μ-loop
 loop-again c =
     let n = more (c .before .before .before) in
-    let long = same-room (c .before .before .before .before .before .before .before .before .before .before .before .before .before .before .loop .inv) (c .before .before .before .before .before .before .before .before .before .before .before .before .apply .ensures) (λ i. c .before .before .before .before .before .before .before .before .before .before .before .before .before .shared-slice-known2 .given i .fits) (c .before .before .before .before .before .before .before .before .before .before .if1 .left) (laid (c .before .before .before .before .before .before .before .before .before .before .before .before .before .before .loop .answers) (c .before .before .before .before .before .before .before .before .put-pair .last .0) (_ ∷ _ ∷ []) _ (c .before .before .before .before .before .before .before .before .put-pair .ensures)) in
-    run-again (c .before .before .before .before .before .before .before .before .before .before .before .before .before .before .loop .inv) (c .before .before .before .before .before .before .before .before .before .before .before .before .apply .ensures) (λ i. c .before .before .before .before .before .before .before .before .before .before .before .before .before .shared-slice-known2 .given i .fits) (c .before .before .before .before .before .before .before .before .before .before .if1 .left) (laid (c .before .before .before .before .before .before .before .before .before .before .before .before .before .before .loop .answers) (c .before .before .before .before .before .before .before .before .put-pair .last .0) (_ ∷ _ ∷ []) _ (c .before .before .before .before .before .before .before .before .put-pair .ensures)) (n .0) (omega (arith, n .1 .0)) (omega (arith, n .1 .1, c .before .before .before .before .before .before .before .before .before .before .before .before .before .before .loop .inv .room, long)) long
+    let long = same-room (c .before .before .before .before .before .before .before .before .before .before .before .before .before .before .before .before .before .loop .inv) (λ i. c .before .before .before .before .before .before .before .before .before .before .before .before .before .before .before .before .shared-slice-known2 .given i .fits) _ (sym (c .before .before .before .before .before .before .before .before .before .before .before .before .before .before .before .decode .ensures) ∙ c .before .before .before .before .before .before .before .before .before .before .before .before .before .r .given .1) (rw (c .before .before .before .before .before .before .before .before .before .answer .ensures, c .before .before .before .before .before .before .before .before .before .before .before .effect .ensures) at (laid (c .before .before .before .before .before .before .before .before .before .before .before .before .before .before .before .before .before .loop .answers) (c .before .before .before .before .before .before .before .before .put-pair .last .0) (_ ∷ _ ∷ []) _ (c .before .before .before .before .before .before .before .before .put-pair .ensures))) in
+    rw (c .before .before .before .before .before .before .before .before .before .before .before .effect .ensures) (run-again (c .before .before .before .before .before .before .before .before .before .before .before .before .before .before .before .before .before .loop .inv) (λ i. c .before .before .before .before .before .before .before .before .before .before .before .before .before .before .before .before .shared-slice-known2 .given i .fits) _ (sym (c .before .before .before .before .before .before .before .before .before .before .before .before .before .before .before .decode .ensures) ∙ c .before .before .before .before .before .before .before .before .before .before .before .before .before .r .given .1) (rw (c .before .before .before .before .before .before .before .before .before .answer .ensures, c .before .before .before .before .before .before .before .before .before .before .before .effect .ensures) at (laid (c .before .before .before .before .before .before .before .before .before .before .before .before .before .before .before .before .before .loop .answers) (c .before .before .before .before .before .before .before .before .put-pair .last .0) (_ ∷ _ ∷ []) _ (c .before .before .before .before .before .before .before .before .put-pair .ensures))) (n .0) (omega (arith, n .1 .0)) (omega (arith, n .1 .1, c .before .before .before .before .before .before .before .before .before .before .before .before .before .before .before .before .before .loop .inv .room, long)) long)
 
 pub run-spec : {M : Type 1} → statement M
 run-spec =
@@ -134,24 +148,28 @@ run-spec =
     array-read-a
     array-read-b
     loop-holds
-    shared-slice-read-apply
-    apply-requires
+    shared-slice-read-decode
+    decode-requires
+    enum-known-r
+    enum-told
     carrying-requires
-    hold-requires
-    report-requires
+    code-requires
+    refused-requires
     same-length
     returns
+    effect-requires
     sub-put-pair
     part-put-pair-start
     part-put-pair-end
+    answer-requires
     put-pair-requires
     add-done
     add-written
     add-at
-    sub-if2
-    sub-if2-2
+    sub-if1
+    sub-if1-2
     between-requires
-    report-requires-2
+    report-requires
     same-length-2
     returns-2
     shared-slice-read-kind
