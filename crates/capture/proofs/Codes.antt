@@ -14,7 +14,7 @@ use Rattle.laws.proofs.Exactly.{by-lines}
 use Rattle.capture.specs.declared.Reader.{Reader}
 use Rattle.capture.specs.Sensor.{headerLength}
 use Rattle.capture.specs.Reader.{rangesOf, turnOf, feedOf, callOf, finishOf}
-use Rattle.capture.specs.Codes.{Header, headerOf, carriedOf, Free, Gives, Finishes}
+use Rattle.capture.specs.Codes.{Header, headerAhead, carriedOf, Free, Gives, Finishes}
 use Rattle.capture.specs.Codes.Header.{badCount, badVariant, unfinished, complete}
 use Rattle.capture.proofs.Judging.{Lines, refused, ended, by-line, has-line}
 use Rattle.capture.proofs.Leading.{Leads, leads}
@@ -28,15 +28,15 @@ held-stays s (b ∷ xs) room n = refused s {s′ = s} b xs room (unfold turnOf i
 
 module _ (s : Reader) (xs : List ℕ) (room : ℕ) (three : length (s .bytes) ≡ 3) where
   -- what is ahead decides the code
-  leads-to : {a : Header} → Free s → headerOf s xs ≡ a → Leads (callOf s xs room .code) (s .done) (carriedOf s) room a
+  leads-to : {a : Header} → Free s → headerAhead s xs ≡ a → Leads (callOf s xs room .code) (s .done) (carriedOf s) room a
   leads-to f e = rw (f .ranges) (rw e at (leads s three f xs room))
 
   -- a line of the records gives its code, and is a line of the table
-  in-lines : {n code : ℕ} {l : List ℕ} → Free s → headerOf s xs ≡ complete n l → Lines n (s .done) (carriedOf s ++ l) room code → callOf s xs room .code ≡ code
+  in-lines : {n code : ℕ} {l : List ℕ} → Free s → headerAhead s xs ≡ complete n l → Lines n (s .done) (carriedOf s ++ l) room code → callOf s xs room .code ≡ code
   unfolding Leads
   in-lines {n} {code} {l} f e m = let t = leads-to f e in t .1 ∙ by-line n (s .done) (t .0) (carriedOf s ++ l) room code m
 
-  of-line : {n code : ℕ} {l : List ℕ} → Free s → headerOf s xs ≡ complete n l → Lines n (s .done) (carriedOf s ++ l) room code → Gives s xs room code
+  of-line : {n code : ℕ} {l : List ℕ} → Free s → headerAhead s xs ≡ complete n l → Lines n (s .done) (carriedOf s ++ l) room code → Gives s xs room code
   of-line f e (Lines.kind m u) = Gives.kind f e m u
   of-line f e (Lines.operand m r) = Gives.operand f e m r
   of-line f e (Lines.past-end p) = Gives.past-end f e p
@@ -61,7 +61,7 @@ module _ (s : Reader) (xs : List ℕ) (room : ℕ) (three : length (s .bytes) �
   told : {code : ℕ} → Gives s xs room code → Gives s xs room (callOf s xs room .code)
   told {code} g = rw (gives code g) g
 
-  by-ahead : Free s → (a : Header) → headerOf s xs ≡ a → Gives s xs room (callOf s xs room .code)
+  by-ahead : Free s → (a : Header) → headerAhead s xs ≡ a → Gives s xs room (callOf s xs room .code)
   by-ahead f badCount e = told (Gives.device-count f e)
   by-ahead f badVariant e = told (Gives.variant f e)
   by-ahead f unfinished e = told (Gives.in-header f e)
@@ -71,7 +71,7 @@ module _ (s : Reader) (xs : List ℕ) (room : ℕ) (three : length (s .bytes) �
   given =
       by-test (rangesOf s)
       (λ h. by-test (eqb (s .held) 0)
-      (λ z. by-ahead (record { ranges = h; none = eqb-true (s .held) 0 z }) (headerOf s xs) refl)
+      (λ z. by-ahead (record { ranges = h; none = eqb-true (s .held) 0 z }) (headerAhead s xs) refl)
       (λ n. told (Gives.held h (eqb-false (s .held) 0 n))))
       (λ o. told (Gives.out-of-ranges o))
 

@@ -19,7 +19,7 @@ use Rattle.record.specs.declared.Refusal.the-variants.{Kind, Operand}
 use Rattle.record.specs.Record.{decodeOf, codeOf}
 use Rattle.capture.specs.declared.Reader.{Reader}
 use Rattle.capture.specs.Sensor.{sensorRanges, sensorEffect}
-use Rattle.capture.specs.Reader.{Turn, placeOf, rangesOf, placeTests, limitOf, holdOf, openedOf, poweredOf, countedOf, carryOf, answeredOf, judgedOf, headOf, recordOf, turnOf}
+use Rattle.capture.specs.Reader.{Turn, placeOf, rangesOf, placeTests, limitOf, holdOf, openedOf, variantTakenOf, countedOf, carryOf, answeredOf, judgedOf, headOf, recordOf, turnOf}
 use Rattle.capture.proofs.Sensors.{early-ranges, powered-ranges, later-ranges, effect-ranges}
 
 -- ---- the tests of a state
@@ -101,10 +101,10 @@ module _ (s : Reader) (b : ℕ) (small : b < 256) (h : rangesOf s ≡ true) wher
         sensor = early-ranges (s .head) (s .device) (r .sensor);
       })
 
-  powered-ranges-at : s .head ≡ 1 → variantOf b ≡ true → rangesOf (poweredOf s b) ≡ true
+  powered-ranges-at : s .head ≡ 1 → variantOf b ≡ true → rangesOf (variantTakenOf s b) ≡ true
   powered-ranges-at z e =
       let l : s .head < 6 = omega arith in
-      of-ranges (poweredOf s b)
+      of-ranges (variantTakenOf s b)
       (record {
         place = (refl, (p .1 .0, (simp (idle s h l), (p .1 .1 .1 .0, (p .1 .1 .1 .1 .0, (p .1 .1 .1 .1 .1 .0, (rw z at (p .1 .1 .1 .1 .1 .1 .0), (p .1 .1 .1 .1 .1 .1 .1 .0, (none s h l, tt)))))))));
         held = r .held;

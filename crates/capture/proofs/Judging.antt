@@ -21,7 +21,7 @@ use Rattle.record.proofs.Known.{kind-refused}
 use Rattle.capture.specs.declared.Reader.{Reader}
 use Rattle.capture.specs.Sensor.{Sensor, sensorEffect}
 use Rattle.capture.specs.Reader.{Out, holdOf, quietOf, answeredOf, turnOf, feedOf}
-use Rattle.capture.specs.Whole.{Quad, quads, over, quadOf, among}
+use Rattle.capture.specs.Whole.{Quad, quads, over, quadOf, recording}
 use Rattle.capture.specs.Codes.{knownKind, IsValid, AllValid, Judged, Past, Done}
 use Rattle.capture.proofs.Outcomes.{feed-stop, feed-full, feed-on}
 use Rattle.capture.proofs.Sections.{first, second, third, fourth, past, lasting}
@@ -57,7 +57,7 @@ judgeOf n k room (q ∷ qs) l = cond (ltb k n) (judgedCode (quadOf q) (cond (leb
 module _ (n k : ℕ) (d : Sensor) where
   module _ (e : ltb k n ≡ true) (xs : List ℕ) (room : ℕ) where
     -- up to three bytes are carried
-    pub carries : (l : List ℕ) → length l ≤ 3 → feedOf (among n k d []) (l ++ xs) room .code ≡ feedOf (among n k d l) xs room .code
+    pub carries : (l : List ℕ) → length l ≤ 3 → feedOf (recording n k d []) (l ++ xs) room .code ≡ feedOf (recording n k d l) xs room .code
     carries [] h = refl
     carries (x ∷ []) h = taken _ x xs room (first n k d e x) refl
     carries (x ∷ a ∷ []) h = taken _ x (a ∷ xs) room (first n k d e x) refl ∙ taken _ a xs room (second n k d e x a) refl
@@ -66,16 +66,16 @@ module _ (n k : ℕ) (d : Sensor) where
     carries (x ∷ a ∷ b ∷ c ∷ l) h = absurd (omega arith)
 
   -- fewer than four bytes, and no more
-  short : (x : ℕ) (l : List ℕ) (room : ℕ) → length (x ∷ l) ≤ 3 → feedOf (among n k d []) (x ∷ l) room .code ≡ cond (ltb k n) 0 5
+  short : (x : ℕ) (l : List ℕ) (room : ℕ) → length (x ∷ l) ≤ 3 → feedOf (recording n k d []) (x ∷ l) room .code ≡ cond (ltb k n) 0 5
   short x l room h =
       by-test (ltb k n)
-      (λ e. simp e (rw append-nil at (carries e [] room (x ∷ l) h) ∙ ended (among n k d (x ∷ l)) room))
+      (λ e. simp e (rw append-nil at (carries e [] room (x ∷ l) h) ∙ ended (recording n k d (x ∷ l)) room))
       (λ e. simp e (refused _ x l room (past n k d e x) (λ z. omega arith)))
 
 -- byte by byte is by fours
-feed-judge : (n k : ℕ) (d : Sensor) (xs : List ℕ) (room : ℕ) → feedOf (among n k d []) xs room .code ≡ judgeOf n k room (quads xs) (over xs)
+feed-judge : (n k : ℕ) (d : Sensor) (xs : List ℕ) (room : ℕ) → feedOf (recording n k d []) xs room .code ≡ judgeOf n k room (quads xs) (over xs)
 unfolding judgeOf
-feed-judge n k d [] room = ended (among n k d []) room
+feed-judge n k d [] room = ended (recording n k d []) room
 feed-judge n k d (x ∷ []) room = short n k d x [] room (omega arith)
 feed-judge n k d (x ∷ a ∷ []) room = short n k d x (a ∷ []) room (omega arith)
 feed-judge n k d (x ∷ a ∷ b ∷ []) room = short n k d x (a ∷ b ∷ []) room (omega arith)
@@ -85,17 +85,17 @@ feed-judge n k d (x ∷ a ∷ b ∷ c ∷ xs) room =
     (λ e. simp e (refused _ x (a ∷ b ∷ c ∷ xs) room (past n k d e x) (λ z. omega arith)))
   where
     go : ltb k n ≡ true → (r : Record) → decodeOf x a b c ≡ r
-        → ((v : Event) → feedOf (among n (k + 1) (sensorEffect d v .sensor) []) xs (room - 2) .code ≡ judgeOf n (k + 1) (room - 2) (quads xs) (over xs))
-        → feedOf (among n k d (x ∷ a ∷ b ∷ [])) (c ∷ xs) room .code ≡ judgedCode (decodeOf x a b c) (cond (leb 2 room) (judgeOf n (k + 1) (room - 2) (quads xs) (over xs)) 7)
+        → ((v : Event) → feedOf (recording n (k + 1) (sensorEffect d v .sensor) []) xs (room - 2) .code ≡ judgeOf n (k + 1) (room - 2) (quads xs) (over xs))
+        → feedOf (recording n k d (x ∷ a ∷ b ∷ [])) (c ∷ xs) room .code ≡ judgedCode (decodeOf x a b c) (cond (leb 2 room) (judgeOf n (k + 1) (room - 2) (quads xs) (over xs)) 7)
     go e (Valid v) q ih =
-        let t : turnOf (among n k d (x ∷ a ∷ b ∷ [])) c ≡ answeredOf (among n k d (x ∷ a ∷ b ∷ [])) (sensorEffect d v) = rw q at (fourth n k d e x a b c) in
-        let s = among n k d (x ∷ a ∷ b ∷ []) in
+        let t : turnOf (recording n k d (x ∷ a ∷ b ∷ [])) c ≡ answeredOf (recording n k d (x ∷ a ∷ b ∷ [])) (sensorEffect d v) = rw q at (fourth n k d e x a b c) in
+        let s = recording n k d (x ∷ a ∷ b ∷ []) in
         rw q
         (by-test (leb 2 room)
         (λ l. simp l (rw t at (ap (λ (o : Out). o .code) (feed-on s c xs room (rw t refl) (rw t (leb-true 2 room l)))) ∙ ih v))
         (λ l. simp l (ap (λ (o : Out). o .code) (feed-full s c xs room (rw t refl) (rw t (leb-false 2 room l))))))
     go e (Refused why) q ih =
-        let t : turnOf (among n k d (x ∷ a ∷ b ∷ [])) c ≡ quietOf (holdOf (among n k d (x ∷ a ∷ b ∷ [])) (codeOf (Refused why))) = rw q at (fourth n k d e x a b c) in
+        let t : turnOf (recording n k d (x ∷ a ∷ b ∷ [])) c ≡ quietOf (holdOf (recording n k d (x ∷ a ∷ b ∷ [])) (codeOf (Refused why))) = rw q at (fourth n k d e x a b c) in
         rw q (refused _ c xs room t (lasting why))
 
 -- valid records that are counted and have room are passed by
@@ -228,8 +228,8 @@ judged n k (x ∷ a ∷ b ∷ c ∷ l) room =
 -- ---- the table of the records, both ways
 
 module _ (n k : ℕ) (d : Sensor) (l : List ℕ) (room : ℕ) where
-  pub by-line : (code : ℕ) → Lines n k l room code → feedOf (among n k d []) l room .code ≡ code
+  pub by-line : (code : ℕ) → Lines n k l room code → feedOf (recording n k d []) l room .code ≡ code
   by-line code m = feed-judge n k d l room ∙ judges n k l room code m
 
-  pub has-line : Lines n k l room (feedOf (among n k d []) l room .code)
+  pub has-line : Lines n k l room (feedOf (recording n k d []) l room .code)
   has-line = rw (feed-judge n k d l room) (judged n k l room)

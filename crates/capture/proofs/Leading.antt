@@ -15,8 +15,8 @@ use Rattle.device.specs.Ranges.{variantOf}
 use Rattle.capture.specs.declared.Reader.{Reader}
 use Rattle.capture.specs.Sensor.{Sensor, sensorPowered}
 use Rattle.capture.specs.Reader.{noBytes, limitOf, holdOf, quietOf, headOf, turnOf, feedOf}
-use Rattle.capture.specs.Whole.{heading, among}
-use Rattle.capture.specs.Codes.{Header, headerOf, numberHeader, variantHeader, countHeader, carriedOf, Free}
+use Rattle.capture.specs.Whole.{heading, recording}
+use Rattle.capture.specs.Codes.{Header, headerAhead, numberHeader, variantHeader, countHeader, carriedOf, Free}
 use Rattle.capture.specs.Codes.Header.{badCount, badVariant, unfinished, complete}
 use Rattle.capture.proofs.InRange.{ranges, idle, none, below-limit}
 use Rattle.capture.proofs.Judging.{taken, refused, ended, carries}
@@ -28,7 +28,7 @@ unfoldable pub Leads : ℕ → ℕ → List ℕ → ℕ → Header → Type 0
 Leads code k c room badCount = code ≡ 1
 Leads code k c room badVariant = code ≡ 2
 Leads code k c room unfinished = code ≡ 0
-Leads code k c room (complete n l) = (d : Sensor) × (code ≡ feedOf (among n k d []) (c ++ l) room .code)
+Leads code k c room (complete n l) = (d : Sensor) × (code ≡ feedOf (recording n k d []) (c ++ l) room .code)
 
 -- so many bytes of the record count to come
 number-leads : (m h n : ℕ) (d : Sensor) (xs : List ℕ) (room : ℕ) → 2 ≤ h → h + m ≡ 6 → Leads (feedOf (heading h n d) xs room .code) 0 [] room (numberHeader m n xs)
@@ -98,7 +98,7 @@ module _ (s : Reader) (three : length (s .bytes) ≡ 3) (f : Free s) where
   places = let p = ranges s (f .ranges) .place in placed (s .bytes) (s .carried) three few (p .1 .1 .1 .0) (p .1 .1 .1 .1 .0) (p .1 .1 .1 .1 .1 .0)
 
   -- in the records a state is told by its count, the records done, the device and the bytes that are carried
-  in-records : s .head ≡ 6 → s ≡ among (s .count) (s .done) (s .device) (carriedOf s)
+  in-records : s .head ≡ 6 → s ≡ recording (s .count) (s .done) (s .device) (carriedOf s)
   in-records h = λ i. record { head = h i; count = s .count; done = s .done; carried = sym carries-few i; bytes = places i; held = f .none i; device = s .device }
 
   -- in the header it is told by the bytes taken, the count so far and the device
@@ -126,8 +126,8 @@ module _ (s : Reader) (three : length (s .bytes) ≡ 3) (f : Free s) where
   uncounted h e one = omega (arith, rw (e, one) at (below-limit s (f .ranges)))
 
   module _ (xs : List ℕ) (room : ℕ) where
-    header-leads : s .head < 6 → Leads (feedOf s xs room .code) (s .done) (carriedOf s) room (headerOf s xs)
-    unfolding headerOf
+    header-leads : s .head < 6 → Leads (feedOf s xs room .code) (s .done) (carriedOf s) room (headerAhead s xs)
+    unfolding headerAhead
     header-leads l =
         rw (ap (λ (t : Reader). feedOf t xs room .code) (in-header l), fresh l, quiet l)
         (cond-ind To (eqb (s .head) 0)
@@ -139,8 +139,8 @@ module _ (s : Reader) (three : length (s .bytes) ≡ 3) (f : Free s) where
         To : Header → Type 0
         To = Leads (feedOf (heading (s .head) (s .count) (s .device)) xs room .code) 0 [] room
 
-    records-leads : s .head ≡ 6 → Leads (feedOf s xs room .code) (s .done) (carriedOf s) room (headerOf s xs)
-    unfolding headerOf Leads
+    records-leads : s .head ≡ 6 → Leads (feedOf s xs room .code) (s .done) (carriedOf s) room (headerAhead s xs)
+    unfolding headerAhead Leads
     records-leads h =
         rw (ap (λ (t : Reader). feedOf t xs room .code) (in-records h), h) (
           s .device,
@@ -149,5 +149,5 @@ module _ (s : Reader) (three : length (s .bytes) ≡ 3) (f : Free s) where
               (λ e. rw (all-done e)),
         )
 
-    pub leads : Leads (feedOf s xs room .code) (s .done) (carriedOf s) room (headerOf s xs)
+    pub leads : Leads (feedOf s xs room .code) (s .done) (carriedOf s) room (headerAhead s xs)
     leads = by-test (ltb (s .head) 6) (λ l. header-leads (ltb-true (s .head) 6 l)) (λ l. records-leads (at-six l))

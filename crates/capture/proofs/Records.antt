@@ -27,13 +27,13 @@ use Rattle.capture.proofs.Feeds.{refused, full, paired}
 
 -- ---- where a record's fourth byte is next
 
-pub record Waiting (s : Reader) : Type 0 where
+pub record AtFourth (s : Reader) : Type 0 where
   pub held : s .held ≡ 0
   pub head : s .head ≡ 6
   pub carried : s .carried ≡ 3
   pub counted : s .done < s .count
 
-pub waiting : (s : Reader) → rangesOf s ≡ true → waitsOf s ≡ true → Waiting s
+pub waiting : (s : Reader) → rangesOf s ≡ true → waitsOf s ≡ true → AtFourth s
 unfolding waitsOf
 waiting s r w =
     let carried : s .carried ≡ 3 = eqb-true _ _ (and-right (eqb (s .held) 0) _ w) in
@@ -60,13 +60,13 @@ three-eta (a ∷ b ∷ c ∷ []) e = refl
 three-eta (a ∷ b ∷ c ∷ d ∷ l) e = absurd (omega arith)
 
 -- such a state, told by its parts
-pub itself : (s : Reader) → Waiting s → length (s .bytes) ≡ 3
+pub itself : (s : Reader) → AtFourth s → length (s .bytes) ≡ 3
     → carryingOf s (s .done) (s .device) (getD (s .bytes) 0 0) (getD (s .bytes) 1 0) (getD (s .bytes) 2 0) ≡ s
 itself s w e = rw (three-eta (s .bytes) e, w .carried)
 
 -- ---- that byte
 
-module _ (s : Reader) (w : Waiting s) (c : ℕ) where
+module _ (s : Reader) (w : AtFourth s) (c : ℕ) where
   abbrev pub recordAt : Record
   recordAt = decodeOf (getD (s .bytes) 0 0) (getD (s .bytes) 1 0) (getD (s .bytes) 2 0) c
 
@@ -85,7 +85,7 @@ unfolding codeOf
 lasting Kind z = omega arith
 lasting Operand z = omega arith
 
-module _ {o : Out} {input entry answers : List ℕ} {s : Reader} {at written : ℕ} (w : Waiting s) (g : Going o input entry answers s at written) (l : at < length input) where
+module _ {o : Out} {input entry answers : List ℕ} {s : Reader} {at written : ℕ} (w : AtFourth s) (g : Going o input entry answers s at written) (l : at < length input) where
   abbrev byte : ℕ
   byte = getD input at 0
 
@@ -154,7 +154,7 @@ goes-on count done input at room written e = split (leb count done) (ltb (input 
 
 -- what is known at its head
 pub record Running (s : Reader) (input before : List ℕ) (from start : ℕ) (answers : List ℕ) (kind a b : ℕ) (device : Sensor) (done at written : ℕ) : Type 0 where
-  pub waits : Waiting s
+  pub waits : AtFourth s
   pub onward : Onward input before s from start answers (carryingOf s done device kind a b) at written
   pub forward : from ≤ at
   pub inside : at < length input
@@ -188,7 +188,7 @@ module _ {s : Reader} {input before : List ℕ} {from start : ℕ} {answers : Li
   abbrev state : Reader
   state = carryingOf s done device kind a b
 
-  here : Waiting state
+  here : AtFourth state
   here = record { held = r .waits .held; head = r .waits .head; carried = refl; counted = r .counted }
 
   pub run-refused : (why : Refusal) → decodeOf kind a b (getD input at 0) ≡ Refused why

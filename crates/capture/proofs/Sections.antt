@@ -19,7 +19,7 @@ use Rattle.record.specs.Record.{decodeOf, codeOf}
 use Rattle.capture.specs.declared.Reader.{Reader}
 use Rattle.capture.specs.Sensor.{Sensor, zeroSensor, sensorPowered, sensorEffect}
 use Rattle.capture.specs.Reader.{Out, stopOf, joinOf, freshOf, holdOf, quietOf, answeredOf, judgedOf, turnOf, headOf, recordOf, endOf}
-use Rattle.capture.specs.Whole.{Whole, refusesOf, thenOf, quads, over, Quad, quadOf, onRecord, heading, among, number, recordsOf, countOf, variantsOf, wholeOf}
+use Rattle.capture.specs.Whole.{Whole, refusesOf, thenOf, quads, over, Quad, quadOf, onRecord, heading, recording, number, recordsOf, recordCountOf, variantsOf, wholeOf}
 use Rattle.capture.proofs.Outcomes.{join-join}
 use Rattle.capture.proofs.Run.{runOf, run-on, run-stop, run-nil}
 
@@ -38,37 +38,37 @@ module _ (s : Reader) {s′ : Reader} (b : ℕ) (bs : List ℕ) (e : turnOf s b 
 -- in the records: where some are left, three bytes are carried and the fourth is judgedOf; where none is left, a byte is refused
 module _ (n k : ℕ) (d : Sensor) where
   module _ (e : ltb k n ≡ true) where
-    pub first : (x : ℕ) → turnOf (among n k d []) x ≡ quietOf (among n k d (x ∷ []))
+    pub first : (x : ℕ) → turnOf (recording n k d []) x ≡ quietOf (recording n k d (x ∷ []))
     unfolding turnOf
     first x = simp e
 
-    pub second : (x a : ℕ) → turnOf (among n k d (x ∷ [])) a ≡ quietOf (among n k d (x ∷ a ∷ []))
+    pub second : (x a : ℕ) → turnOf (recording n k d (x ∷ [])) a ≡ quietOf (recording n k d (x ∷ a ∷ []))
     unfolding turnOf
     second x a = simp e
 
-    pub third : (x a b : ℕ) → turnOf (among n k d (x ∷ a ∷ [])) b ≡ quietOf (among n k d (x ∷ a ∷ b ∷ []))
+    pub third : (x a b : ℕ) → turnOf (recording n k d (x ∷ a ∷ [])) b ≡ quietOf (recording n k d (x ∷ a ∷ b ∷ []))
     unfolding turnOf
     third x a b = simp e
 
-    pub fourth : (x a b c : ℕ) → turnOf (among n k d (x ∷ a ∷ b ∷ [])) c ≡ judgedOf (among n k d (x ∷ a ∷ b ∷ [])) (decodeOf x a b c)
+    pub fourth : (x a b c : ℕ) → turnOf (recording n k d (x ∷ a ∷ b ∷ [])) c ≡ judgedOf (recording n k d (x ∷ a ∷ b ∷ [])) (decodeOf x a b c)
     unfolding turnOf recordOf
     fourth x a b c = simp e
 
-    one-in : (x : ℕ) (ys : List ℕ) → runOf (among n k d []) (x ∷ ys) ≡ joinOf 1 [] (runOf (among n k d (x ∷ [])) ys)
+    one-in : (x : ℕ) (ys : List ℕ) → runOf (recording n k d []) (x ∷ ys) ≡ joinOf 1 [] (runOf (recording n k d (x ∷ [])) ys)
     one-in x ys = taken _ x ys (first x) refl
 
-    two-in : (x a : ℕ) (ys : List ℕ) → runOf (among n k d []) (x ∷ a ∷ ys) ≡ joinOf 2 [] (runOf (among n k d (x ∷ a ∷ [])) ys)
-    two-in x a ys = one-in x (a ∷ ys) ∙ ap (joinOf 1 []) (taken _ a ys (second x a) refl) ∙ join-join 1 1 [] [] (runOf (among n k d (x ∷ a ∷ [])) ys)
+    two-in : (x a : ℕ) (ys : List ℕ) → runOf (recording n k d []) (x ∷ a ∷ ys) ≡ joinOf 2 [] (runOf (recording n k d (x ∷ a ∷ [])) ys)
+    two-in x a ys = one-in x (a ∷ ys) ∙ ap (joinOf 1 []) (taken _ a ys (second x a) refl) ∙ join-join 1 1 [] [] (runOf (recording n k d (x ∷ a ∷ [])) ys)
 
-    three-in : (x a b : ℕ) (ys : List ℕ) → runOf (among n k d []) (x ∷ a ∷ b ∷ ys) ≡ joinOf 3 [] (runOf (among n k d (x ∷ a ∷ b ∷ [])) ys)
-    three-in x a b ys = two-in x a (b ∷ ys) ∙ ap (joinOf 2 []) (taken _ b ys (third x a b) refl) ∙ join-join 2 1 [] [] (runOf (among n k d (x ∷ a ∷ b ∷ [])) ys)
+    three-in : (x a b : ℕ) (ys : List ℕ) → runOf (recording n k d []) (x ∷ a ∷ b ∷ ys) ≡ joinOf 3 [] (runOf (recording n k d (x ∷ a ∷ b ∷ [])) ys)
+    three-in x a b ys = two-in x a (b ∷ ys) ∙ ap (joinOf 2 []) (taken _ b ys (third x a b) refl) ∙ join-join 2 1 [] [] (runOf (recording n k d (x ∷ a ∷ b ∷ [])) ys)
 
   module _ (e : ltb k n ≡ false) (x : ℕ) where
-    pub past : turnOf (among n k d []) x ≡ quietOf (holdOf (among n k d []) 5)
+    pub past : turnOf (recording n k d []) x ≡ quietOf (holdOf (recording n k d []) 5)
     unfolding turnOf
     past = simp e
 
-    full : (ys : List ℕ) → runOf (among n k d []) (x ∷ ys) ≡ stopOf (holdOf (among n k d []) 5)
+    full : (ys : List ℕ) → runOf (recording n k d []) (x ∷ ys) ≡ stopOf (holdOf (recording n k d []) 5)
     full ys = refused _ x ys past (λ z. omega arith)
 
 pub lasting : (why : Refusal) → codeOf (Refused why) ≡ 0 → ⊥
@@ -76,9 +76,9 @@ unfolding codeOf
 lasting Kind z = omega arith
 lasting Operand z = omega arith
 
-records-run : (n k : ℕ) (d : Sensor) (xs : List ℕ) → runOf (among n k d []) xs ≡ outcome (recordsOf n k d (quads xs) (over xs))
+records-run : (n k : ℕ) (d : Sensor) (xs : List ℕ) → runOf (recording n k d []) xs ≡ outcome (recordsOf n k d (quads xs) (over xs))
 unfolding recordsOf
-records-run n k d [] = run-nil (among n k d [])
+records-run n k d [] = run-nil (recording n k d [])
 records-run n k d (x ∷ []) = by-test (ltb k n) (λ e. simp e (one-in n k d e x [] ∙ ap (joinOf 1 []) (run-nil _))) (λ e. simp e (full n k d e x []))
 records-run n k d (x ∷ a ∷ []) = by-test (ltb k n) (λ e. simp e (two-in n k d e x a [] ∙ ap (joinOf 2 []) (run-nil _))) (λ e. simp e (full n k d e x (a ∷ [])))
 records-run n k d (x ∷ a ∷ b ∷ []) = by-test (ltb k n) (λ e. simp e (three-in n k d e x a b [] ∙ ap (joinOf 3 []) (run-nil _))) (λ e. simp e (full n k d e x (a ∷ b ∷ [])))
@@ -88,16 +88,16 @@ records-run n k d (x ∷ a ∷ b ∷ c ∷ xs) =
     (λ e. simp e (full n k d e x (a ∷ b ∷ c ∷ xs)))
   where
     go : ltb k n ≡ true → (r : Record) → decodeOf x a b c ≡ r
-        → ((v : Event) → runOf (among n (k + 1) (sensorEffect d v .sensor) []) xs ≡ outcome (recordsOf n (k + 1) (sensorEffect d v .sensor) (quads xs) (over xs)))
-        → joinOf 3 [] (runOf (among n k d (x ∷ a ∷ b ∷ [])) (c ∷ xs)) ≡ outcome (recordsOf n k d (quads (x ∷ a ∷ b ∷ c ∷ xs)) (over (x ∷ a ∷ b ∷ c ∷ xs)))
+        → ((v : Event) → runOf (recording n (k + 1) (sensorEffect d v .sensor) []) xs ≡ outcome (recordsOf n (k + 1) (sensorEffect d v .sensor) (quads xs) (over xs)))
+        → joinOf 3 [] (runOf (recording n k d (x ∷ a ∷ b ∷ [])) (c ∷ xs)) ≡ outcome (recordsOf n k d (quads (x ∷ a ∷ b ∷ c ∷ xs)) (over (x ∷ a ∷ b ∷ c ∷ xs)))
     go e (Valid v) q ih =
-        let t : turnOf (among n k d (x ∷ a ∷ b ∷ [])) c ≡ answeredOf (among n k d (x ∷ a ∷ b ∷ [])) (sensorEffect d v) = rw q at (fourth n k d e x a b c) in
+        let t : turnOf (recording n k d (x ∷ a ∷ b ∷ [])) c ≡ answeredOf (recording n k d (x ∷ a ∷ b ∷ [])) (sensorEffect d v) = rw q at (fourth n k d e x a b c) in
         simp (e, q)
-        (ap (joinOf 3 []) (rw t at (run-on (among n k d (x ∷ a ∷ b ∷ [])) c xs (rw t refl)))
-        ∙ join-join 3 1 [] (sensorEffect d v .first ∷ sensorEffect d v .second ∷ []) (runOf (among n (k + 1) (sensorEffect d v .sensor) []) xs)
+        (ap (joinOf 3 []) (rw t at (run-on (recording n k d (x ∷ a ∷ b ∷ [])) c xs (rw t refl)))
+        ∙ join-join 3 1 [] (sensorEffect d v .first ∷ sensorEffect d v .second ∷ []) (runOf (recording n (k + 1) (sensorEffect d v .sensor) []) xs)
         ∙ ap (joinOf 4 (sensorEffect d v .first ∷ sensorEffect d v .second ∷ [])) (ih v))
     go e (Refused why) q ih =
-        let t : turnOf (among n k d (x ∷ a ∷ b ∷ [])) c ≡ quietOf (holdOf (among n k d (x ∷ a ∷ b ∷ [])) (codeOf (Refused why))) = rw q at (fourth n k d e x a b c) in
+        let t : turnOf (recording n k d (x ∷ a ∷ b ∷ [])) c ≡ quietOf (holdOf (recording n k d (x ∷ a ∷ b ∷ [])) (codeOf (Refused why))) = rw q at (fourth n k d e x a b c) in
         simp (e, q) (ap (joinOf 3 []) (refused _ c xs t (lasting why)))
 
 -- a byte of the count
@@ -114,15 +114,15 @@ module _ (n : ℕ) (d : Sensor) (b : ℕ) (ys : List ℕ) where
   unfolding turnOf headOf
   count-4 = taken (heading 4 n d) b ys refl refl
 
-  count-5 : runOf (heading 5 n d) (b ∷ ys) ≡ joinOf 1 [] (runOf (among (n * 256 + b) 0 d []) ys)
+  count-5 : runOf (heading 5 n d) (b ∷ ys) ≡ joinOf 1 [] (runOf (recording (n * 256 + b) 0 d []) ys)
   unfolding turnOf headOf
   count-5 = taken (heading 5 n d) b ys refl refl
 
 four : (o : Out) → joinOf 1 [] (joinOf 1 [] (joinOf 1 [] (joinOf 1 [] o))) ≡ joinOf 4 [] o
 four o = ap (joinOf 1 []) (ap (joinOf 1 []) (join-join 1 1 [] [] o) ∙ join-join 1 2 [] [] o) ∙ join-join 1 3 [] [] o
 
-count-run : (d : Sensor) (xs : List ℕ) → runOf (heading 2 0 d) xs ≡ outcome (countOf d xs)
-unfolding countOf
+count-run : (d : Sensor) (xs : List ℕ) → runOf (heading 2 0 d) xs ≡ outcome (recordCountOf d xs)
+unfolding recordCountOf
 count-run d [] = run-nil (heading 2 0 d)
 count-run d (a ∷ []) = rw (count-2 0 d a [], run-nil (heading 3 (0 * 256 + a) d)) refl
 count-run d (a ∷ b ∷ []) = rw (count-2 0 d a (b ∷ []), count-3 (0 * 256 + a) d b [], run-nil (heading 4 ((0 * 256 + a) * 256 + b) d)) refl
@@ -177,13 +177,13 @@ records-finishing n k d (q ∷ qs) l =
     cond-ind Finishes (ltb k n) (λ _. each (quadOf q) (λ e. records-finishing n (k + 1) (sensorEffect d e .sensor) qs l)) (λ _. refl)
   where
     each : (r : Record) → ((e : Event) → Finishes (recordsOf n (k + 1) (sensorEffect d e .sensor) qs l))
-        → Finishes (onRecord r (λ e. thenOf 4 (sensorEffect d e .first ∷ sensorEffect d e .second ∷ []) (recordsOf n (k + 1) (sensorEffect d e .sensor) qs l)) (λ code. thenOf 3 [] (refusesOf (among n k d (q .kind ∷ q .a ∷ q .b ∷ [])) code)))
+        → Finishes (onRecord r (λ e. thenOf 4 (sensorEffect d e .first ∷ sensorEffect d e .second ∷ []) (recordsOf n (k + 1) (sensorEffect d e .sensor) qs l)) (λ code. thenOf 3 [] (refusesOf (recording n k d (q .kind ∷ q .a ∷ q .b ∷ [])) code)))
     each (Valid e) f = f e
     each (Refused Kind) f = refl
     each (Refused Operand) f = refl
 
-count-finishing : (d : Sensor) (xs : List ℕ) → Finishes (countOf d xs)
-unfolding countOf
+count-finishing : (d : Sensor) (xs : List ℕ) → Finishes (recordCountOf d xs)
+unfolding recordCountOf
 count-finishing d [] = refl
 count-finishing d (a ∷ []) = refl
 count-finishing d (a ∷ b ∷ []) = refl

@@ -17,7 +17,7 @@ use Rattle.record.specs.Record.{encodeOf}
 use Rattle.record.specs.Writer.{headerOf}
 use Rattle.record.proofs.RoundTrip.{reads-back}
 use Rattle.capture.specs.Sensor.{Sensor, sensorPowered, sensorEffect}
-use Rattle.capture.specs.Whole.{Whole, Quad, quadOf, thenOf, quads, over, number, recordsOf, countOf, variantsOf, wholeOf}
+use Rattle.capture.specs.Whole.{Whole, Quad, quadOf, thenOf, quads, over, number, recordsOf, recordCountOf, variantsOf, wholeOf}
 use Rattle.capture.specs.Written.{recordsBytes, answersOf, Allowed, ReadBack}
 
 -- ---- one record
@@ -92,7 +92,7 @@ number-back n h =
     simp (zero-add, a, b, c, div-add-mod' n 0x100)
 
 pub read-back : (variant : ℕ) (es : List Event) → variantOf variant ≡ true → length es < 0x100000000 → Allowed es → ReadBack variant es
-unfolding wholeOf variantsOf countOf headerOf
+unfolding wholeOf variantsOf recordCountOf headerOf
 read-back variant es v l a =
     let n = number 0 (length es / 0x1000000 % 0x100 ∷ length es / 0x10000 % 0x100 ∷ length es / 0x100 % 0x100 ∷ length es % 0x100 ∷ []) in
     let r = all-records n 0 (sensorPowered variant) es (omega (arith, number-back (length es) l)) a in

@@ -40,8 +40,8 @@ abbrev pub countHeader : List ℕ → Header
 countHeader [] = unfinished
 countHeader (n ∷ xs) = cond (eqb n 1) (variantHeader xs) badCount
 
-unfoldable pub headerOf : Reader → List ℕ → Header
-headerOf s xs =
+unfoldable pub headerAhead : Reader → List ℕ → Header
+headerAhead s xs =
     cond (eqb (s .head) 0) (countHeader xs)
     (cond (eqb (s .head) 1) (variantHeader xs)
     (numberHeader (headerLength - s .head) (s .count) xs))
@@ -98,23 +98,23 @@ pub data Gives (s : Reader) (xs : List ℕ) (room : ℕ) : ℕ → Type 0 where
   -- a lasting code already held
   held : rangesOf s ≡ true → (s .held ≡ 0 → ⊥) → Gives s xs room (s .held)
   -- 1: device count is not 1
-  device-count : Free s → headerOf s xs ≡ badCount → Gives s xs room 1
+  device-count : Free s → headerAhead s xs ≡ badCount → Gives s xs room 1
   -- 2: variant is not 1, 2 or 3
-  variant : Free s → headerOf s xs ≡ badVariant → Gives s xs room 2
+  variant : Free s → headerAhead s xs ≡ badVariant → Gives s xs room 2
   -- 3: kind is not 01 to 07
-  kind : {n j : ℕ} {l : List ℕ} {q : Quad} → Free s → headerOf s xs ≡ complete n l → Judged n (s .done) (carriedOf s ++ l) room j q
+  kind : {n j : ℕ} {l : List ℕ} {q : Quad} → Free s → headerAhead s xs ≡ complete n l → Judged n (s .done) (carriedOf s ++ l) room j q
       → knownKind (q .kind) ≡ false → Gives s xs room 3
   -- 4: an operand breaks the table
-  operand : {n j : ℕ} {l : List ℕ} {q : Quad} → Free s → headerOf s xs ≡ complete n l → Judged n (s .done) (carriedOf s ++ l) room j q
+  operand : {n j : ℕ} {l : List ℕ} {q : Quad} → Free s → headerAhead s xs ≡ complete n l → Judged n (s .done) (carriedOf s ++ l) room j q
       → quadOf q ≡ Refused Operand → Gives s xs room 4
   -- 5: a byte comes after the last counted record
-  past-end : {n : ℕ} {l : List ℕ} → Free s → headerOf s xs ≡ complete n l → Past n (s .done) (carriedOf s ++ l) room → Gives s xs room 5
+  past-end : {n : ℕ} {l : List ℕ} → Free s → headerAhead s xs ≡ complete n l → Past n (s .done) (carriedOf s ++ l) room → Gives s xs room 5
   -- 7: a valid record is complete but fewer than two bytes of room are left
-  no-room : {n j : ℕ} {l : List ℕ} {q : Quad} → Free s → headerOf s xs ≡ complete n l → Judged n (s .done) (carriedOf s ++ l) room j q
+  no-room : {n j : ℕ} {l : List ℕ} {q : Quad} → Free s → headerAhead s xs ≡ complete n l → Judged n (s .done) (carriedOf s ++ l) room j q
       → IsValid q → room < j * 2 + 2 → Gives s xs room 7
   -- 0: none of the others applies
-  in-header : Free s → headerOf s xs ≡ unfinished → Gives s xs room 0
-  in-records : {n : ℕ} {l : List ℕ} → Free s → headerOf s xs ≡ complete n l → Done n (s .done) (carriedOf s ++ l) room → Gives s xs room 0
+  in-header : Free s → headerAhead s xs ≡ unfinished → Gives s xs room 0
+  in-records : {n : ℕ} {l : List ℕ} → Free s → headerAhead s xs ≡ complete n l → Done n (s .done) (carriedOf s ++ l) room → Gives s xs room 0
 
 -- asked to finish, state s gives this code
 pub data Finishes (s : Reader) : ℕ → Type 0 where

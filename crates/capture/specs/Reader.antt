@@ -74,8 +74,8 @@ quietOf s = record { reader = s; pair = false; first = 0; second = 0 }
 abbrev pub openedOf : Reader → Reader
 openedOf s = record { head = 1; count = s .count; done = s .done; carried = s .carried; bytes = s .bytes; held = s .held; device = s .device }
 
-abbrev pub poweredOf : Reader → ℕ → Reader
-poweredOf s variant = record { head = 2; count = s .count; done = s .done; carried = s .carried; bytes = s .bytes; held = s .held; device = sensorPowered variant }
+abbrev pub variantTakenOf : Reader → ℕ → Reader
+variantTakenOf s variant = record { head = 2; count = s .count; done = s .done; carried = s .carried; bytes = s .bytes; held = s .held; device = sensorPowered variant }
 
 abbrev pub countedOf : Reader → ℕ → Reader
 countedOf s b = record { head = s .head + 1; count = s .count * 256 + b; done = s .done; carried = s .carried; bytes = s .bytes; held = s .held; device = s .device }
@@ -84,7 +84,7 @@ countedOf s b = record { head = s .head + 1; count = s .count * 256 + b; done = 
 unfoldable pub headOf : Reader → ℕ → Reader
 headOf s b =
     cond (eqb (s .head) 0) (cond (eqb b 1) (openedOf s) (holdOf s 1))
-    (cond (eqb (s .head) 1) (cond (variantOf b) (poweredOf s b) (holdOf s 2))
+    (cond (eqb (s .head) 1) (cond (variantOf b) (variantTakenOf s b) (holdOf s 2))
     (countedOf s b))
 
 abbrev pub carryOf : Reader → ℕ → Reader

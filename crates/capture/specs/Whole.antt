@@ -44,8 +44,8 @@ abbrev pub heading : ℕ → ℕ → Sensor → Reader
 heading head count sensor = record { head = head; count = count; done = 0; carried = 0; bytes = noBytes; held = 0; device = sensor }
 
 -- in the records, k of n done, with some bytes of the next one
-abbrev pub among : ℕ → ℕ → Sensor → List ℕ → Reader
-among n k sensor l = record { head = headerLength; count = n; done = k; carried = length l; bytes = take 3 (l ++ noBytes); held = 0; device = sensor }
+abbrev pub recording : ℕ → ℕ → Sensor → List ℕ → Reader
+recording n k sensor l = record { head = headerLength; count = n; done = k; carried = length l; bytes = take 3 (l ++ noBytes); held = 0; device = sensor }
 
 -- ---- the records
 
@@ -82,15 +82,15 @@ onRecord (Refused why) step refuse = refuse (codeOf (Refused why))
 -- the records in order, then the bytes over, k of n done: 5 for a byte past the last counted record; the finishing code is 0 at the
 -- counted end exactly
 unfoldable pub recordsOf : ℕ → ℕ → Sensor → List Quad → List ℕ → Whole
-recordsOf n k sensor [] [] = endsOf (among n k sensor []) (cond (eqb k n) 0 6)
+recordsOf n k sensor [] [] = endsOf (recording n k sensor []) (cond (eqb k n) 0 6)
 recordsOf n k sensor [] (x ∷ l) =
-    cond (ltb k n) (thenOf (length (x ∷ l)) [] (endsOf (among n k sensor (x ∷ l)) 6)) (refusesOf (among n k sensor []) 5)
+    cond (ltb k n) (thenOf (length (x ∷ l)) [] (endsOf (recording n k sensor (x ∷ l)) 6)) (refusesOf (recording n k sensor []) 5)
 recordsOf n k sensor (q ∷ qs) l =
     cond (ltb k n)
     (onRecord (quadOf q)
     (λ e. thenOf 4 (sensorEffect sensor e .first ∷ sensorEffect sensor e .second ∷ []) (recordsOf n (k + 1) (sensorEffect sensor e .sensor) qs l))
-    (λ code. thenOf 3 [] (refusesOf (among n k sensor (q .kind ∷ q .a ∷ q .b ∷ [])) code)))
-    (refusesOf (among n k sensor []) 5)
+    (λ code. thenOf 3 [] (refusesOf (recording n k sensor (q .kind ∷ q .a ∷ q .b ∷ [])) code)))
+    (refusesOf (recording n k sensor []) 5)
 
 -- ---- the header
 
@@ -100,17 +100,17 @@ number n [] = n
 number n (b ∷ bs) = number (n * 256 + b) bs
 
 -- the record count, four bytes, and the records
-unfoldable pub countOf : Sensor → List ℕ → Whole
-countOf sensor [] = endsOf (heading 2 0 sensor) 6
-countOf sensor (a ∷ []) = thenOf 1 [] (endsOf (heading 3 (number 0 (a ∷ [])) sensor) 6)
-countOf sensor (a ∷ b ∷ []) = thenOf 2 [] (endsOf (heading 4 (number 0 (a ∷ b ∷ [])) sensor) 6)
-countOf sensor (a ∷ b ∷ c ∷ []) = thenOf 3 [] (endsOf (heading 5 (number 0 (a ∷ b ∷ c ∷ [])) sensor) 6)
-countOf sensor (a ∷ b ∷ c ∷ d ∷ xs) = thenOf 4 [] (recordsOf (number 0 (a ∷ b ∷ c ∷ d ∷ [])) 0 sensor (quads xs) (over xs))
+unfoldable pub recordCountOf : Sensor → List ℕ → Whole
+recordCountOf sensor [] = endsOf (heading 2 0 sensor) 6
+recordCountOf sensor (a ∷ []) = thenOf 1 [] (endsOf (heading 3 (number 0 (a ∷ [])) sensor) 6)
+recordCountOf sensor (a ∷ b ∷ []) = thenOf 2 [] (endsOf (heading 4 (number 0 (a ∷ b ∷ [])) sensor) 6)
+recordCountOf sensor (a ∷ b ∷ c ∷ []) = thenOf 3 [] (endsOf (heading 5 (number 0 (a ∷ b ∷ c ∷ [])) sensor) 6)
+recordCountOf sensor (a ∷ b ∷ c ∷ d ∷ xs) = thenOf 4 [] (recordsOf (number 0 (a ∷ b ∷ c ∷ d ∷ [])) 0 sensor (quads xs) (over xs))
 
 -- the variant byte
 unfoldable pub variantsOf : List ℕ → Whole
 variantsOf [] = endsOf (heading 1 0 zeroSensor) 6
-variantsOf (v ∷ xs) = cond (variantOf v) (thenOf 1 [] (countOf (sensorPowered v) xs)) (refusesOf (heading 1 0 zeroSensor) 2)
+variantsOf (v ∷ xs) = cond (variantOf v) (thenOf 1 [] (recordCountOf (sensorPowered v) xs)) (refusesOf (heading 1 0 zeroSensor) 2)
 
 -- the device count
 unfoldable pub wholeOf : List ℕ → Whole
