@@ -39,3 +39,7 @@ benchOf capture room =
 pub record Ran (b : Bench) (result : ℕ) (entry exit : List ℕ) : Type 0 where
   pub told : result ≡ length (b .answers) * 16 + b .code
   pub buffer : exit ≡ b .answers ++ drop (length (b .answers)) entry
+
+-- of a capture, with a buffer that held `entry`
+abbrev pub RanWhole : List ℕ → ℕ → List ℕ → List ℕ → Type 0
+RanWhole capture result entry exit = Ran (benchOf capture (length entry)) result entry exit

@@ -1,7 +1,6 @@
 // The bench's call on a whole capture, for C.
 ghost use mathlib.Core.Path.{_≡_};
-ghost use lib.ListN.{length};
-ghost use Rattle.bench.specs.Bench.{lastOf, benchOf, Ran};
+ghost use Rattle.bench.specs.Bench.{lastOf, RanWhole};
 use capture::Reader;
 
 // The reader's code if not 0, else the finishing one.
@@ -18,7 +17,7 @@ fn last_code(code: u8, reader: Reader) -> u8
 // A whole capture and an answer buffer: sixteen times the answer bytes written, plus the code.
 #[no_mangle]
 pub extern "C" fn lm89_run(bytes: &[u8], answers: &mut [u8]) -> u64
-    ensures { λ r. ⌜ Ran (benchOf (now (bytes .entry)) (length (now (answers .entry)))) r (now (answers .entry)) (now (answers .exit)) ⌝ }
+    ensures { λ r. ⌜ RanWhole (now (bytes .entry)) r (now (answers .entry)) (now (answers .exit)) ⌝ }
 {
     let fed = capture::feed(capture::fresh(), bytes, answers);
     let reader = fed.reader;

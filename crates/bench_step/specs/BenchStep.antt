@@ -1,4 +1,5 @@
--- The bench's device, stepped by an event that is given as its record's four bytes.
+-- The bench's device, stepped by an event that is given as its record's four bytes, since an exported function takes no enum. On the
+-- bytes of an event it is the step by value (proofs/Twin.antt: is-the-step); 3 is for bytes that are no event's.
 -- Assumes nothing.
 use Prim.Native.Nat.{ℕ}
 use mathlib.Core.Bool.{_&&_, cond}
@@ -29,6 +30,6 @@ onRecordOf d (Refused why) = refusalOf d (codeOf (Refused why))
 unfoldable pub stepBytesOf : Device → ℕ → ℕ → ℕ → ℕ → Taken
 stepBytesOf d kind a b c = cond (variantOf (d .variant) && rangedOf d) (onRecordOf d (decodeOf kind a b c)) (refusalOf d 8)
 
--- a device as after power-on; all zeros, whose first step gives 8, for a variant that is none of 1 to 3
+-- beside document 01: a device as after power-on; all zeros, whose first step gives 8, for a variant that is none of 1 to 3
 unfoldable pub powerOnOf : ℕ → Device
 powerOnOf variant = cond (variantOf variant) (poweredOf variant) zeroDevice

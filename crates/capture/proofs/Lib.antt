@@ -15,3 +15,5 @@ pub mod Written
 pub mod Judging
 pub mod Leading
 pub mod Codes
+pub mod Stepping
+pub mod Lasting

@@ -116,9 +116,17 @@ pub data Gives (s : Reader) (xs : List ℕ) (room : ℕ) : ℕ → Type 0 where
   in-header : Free s → headerAhead s xs ≡ unfinished → Gives s xs room 0
   in-records : {n : ℕ} {l : List ℕ} → Free s → headerAhead s xs ≡ complete n l → Done n (s .done) (carriedOf s ++ l) room → Gives s xs room 0
 
+-- the codes that last: 1 to 5
+abbrev pub lastingOf : ℕ → Bool
+lastingOf code = leb 1 code && leb code 5
+
 -- asked to finish, state s gives this code
 pub data Finishes (s : Reader) : ℕ → Type 0 where
+  -- 8: the state handed in is out of its ranges
   out-of-ranges : rangesOf s ≡ false → Finishes s 8
+  -- a lasting code already held
   held : rangesOf s ≡ true → (s .held ≡ 0 → ⊥) → Finishes s (s .held)
+  -- 6: the capture is not at its counted end
   before-end : Free s → (s .head ≡ headerLength → s .done ≡ s .count → ⊥) → Finishes s 6
+  -- 0: it is
   at-end : Free s → s .head ≡ headerLength → s .done ≡ s .count → Finishes s 0

@@ -29,7 +29,7 @@ holdOf s code = record { head = s .head; count = s .count; done = s .done; carri
 
 -- ---- its ranges
 
--- 256 to the power of the count bytes taken
+-- 256 to the power of the count bytes taken, of which the first two header bytes are none
 abbrev pub limitOf : ℕ → ℕ
 limitOf head = 256 ^ (min head headerLength - 2)
 
@@ -180,3 +180,7 @@ pub record Meets (o : Out) (r : Fed) (entry exit : List ℕ) : Type 0 where
   pub written : r .written ≡ length (o .answers)
   pub reader : r .reader ≡ o .reader
   pub buffer : exit ≡ filledOf o entry
+
+-- of a state and some bytes, with a buffer that held `entry`
+abbrev pub FedWith : Reader → List ℕ → Fed → List ℕ → List ℕ → Type 0
+FedWith s xs r entry exit = Meets (callOf s xs (length entry)) r entry exit

@@ -7,7 +7,7 @@ use mathlib.Core.List.{List, [], _∷_, _++_}
 use lib.ListN.{length, take, drop}
 use Rattle.capture.specs.declared.Reader.{Reader}
 use Rattle.capture.specs.declared.Fed.{Fed}
-use Rattle.capture.specs.Reader.{Out, joinOf, callOf, finishOf, rangesOf, Meets}
+use Rattle.capture.specs.Reader.{Out, joinOf, finishOf, rangesOf, FedWith}
 use Rattle.capture.specs.Whole.{wholeOf}
 
 -- what a caller sees of a call: the result, and the bytes of its buffer that the call says it wrote
@@ -21,9 +21,9 @@ after a b = joinOf (a .consumed) (a .answers) b
 -- one part, fed to its end: the first call has `least` room or more; after each 7, and only then, the unread rest is given again, with
 -- room for two or more
 pub data Part : ℕ → Reader → List ℕ → Out → Type 0 where
-  last : {least : ℕ} {s : Reader} {xs entry exit : List ℕ} {r : Fed} → least ≤ length entry → Meets (callOf s xs (length entry)) r entry exit
+  last : {least : ℕ} {s : Reader} {xs entry exit : List ℕ} {r : Fed} → least ≤ length entry → FedWith s xs r entry exit
       → (r .code ≡ 7 → ⊥) → Part least s xs (seen r exit)
-  again : {least : ℕ} {s : Reader} {xs entry exit : List ℕ} {r : Fed} {o : Out} → least ≤ length entry → Meets (callOf s xs (length entry)) r entry exit
+  again : {least : ℕ} {s : Reader} {xs entry exit : List ℕ} {r : Fed} {o : Out} → least ≤ length entry → FedWith s xs r entry exit
       → r .code ≡ 7 → Part 2 (r .reader) (drop (r .consumed) xs) o → Part least s xs (after (seen r exit) o)
 
 -- one or more parts in order, each from the state that the one before it left, each first call with any room

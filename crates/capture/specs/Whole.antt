@@ -1,5 +1,5 @@
--- What a whole capture gives: its sections in order, its records by fours, with room for every answer. No byte is taken one at a
--- time here, and nothing is asked of a state.
+-- What a whole capture gives: its sections in order, its records by fours, with room for every answer. No record is taken byte
+-- by byte here, and nothing is asked of a state.
 -- Assumes nothing.
 use Prim.Native.Nat.{ℕ, _+_, _*_}
 use mathlib.Core.List.{List, [], _∷_, _++_}
@@ -74,12 +74,13 @@ over (k ∷ a ∷ b ∷ c ∷ xs) = over xs
 abbrev pub quadOf : Quad → Record
 quadOf q = decodeOf (q .kind) (q .a) (q .b) (q .c)
 
--- an event is stepped; a refused record leaves its first three bytes consumed and carried
+-- an event is stepped; a refused record is told by its code
 abbrev pub onRecord : Record → (Event → Whole) → (ℕ → Whole) → Whole
 onRecord (Valid e) step refuse = step e
 onRecord (Refused why) step refuse = refuse (codeOf (Refused why))
 
--- the records in order, then the bytes over, k of n done: 5 for a byte past the last counted record; the finishing code is 0 at the
+-- the records in order, then the bytes over, k of n done; a refused record leaves its first three bytes consumed and carried; 5 for a
+-- byte past the last counted record; the finishing code is 0 at the
 -- counted end exactly
 unfoldable pub recordsOf : ℕ → ℕ → Sensor → List Quad → List ℕ → Whole
 recordsOf n k sensor [] [] = endsOf (recording n k sensor []) (cond (eqb k n) 0 6)

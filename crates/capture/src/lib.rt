@@ -1,7 +1,6 @@
 // The capture's reader: fed in parts of any size, with any room for answers.
 ghost use mathlib.Core.Path.{_≡_};
-ghost use lib.ListN.{length};
-ghost use Rattle.capture.specs.Reader.{freshOf, callOf, endOf, finishOf, reportOf, Meets};
+ghost use Rattle.capture.specs.Reader.{freshOf, endOf, finishOf, reportOf, FedWith};
 use device::Device;
 
 pub mod ranges;
@@ -62,7 +61,7 @@ pub(crate) fn report(code: u8, consumed: usize, written: usize, reader: Reader) 
 
 // As many bytes of the input as can be, the answers to the front of the lent buffer.
 pub fn feed(reader: Reader, input: &[u8], answers: &mut [u8]) -> Fed
-    ensures { λ r. ⌜ Meets (callOf reader (now (input .entry)) (length (now (answers .entry)))) r (now (answers .entry)) (now (answers .exit)) ⌝ }
+    ensures { λ r. ⌜ FedWith reader (now (input .entry)) r (now (answers .entry)) (now (answers .exit)) ⌝ }
 {
     if !ranges::in_range(reader) {
         return report(8, 0, 0, reader);

@@ -36,7 +36,7 @@ outOf t limits = record { high = aboveOf t (limits .high); low = belowOf t (limi
 unfoldable pub anyOf : Out → Bool
 anyOf o = o .high || o .low || o .crit
 
--- up by one, to at most 3, where the reading is outside any of its three limits, else 0
+-- up by one, to at most 3, where the reading is outside any of its three limits, else 0; D0 is not asked
 unfoldable pub countOf : ℕ → Bool → ℕ
 countOf n out = cond out (min 3 (n + 1)) 0
 
@@ -48,7 +48,7 @@ queuedOf configuration count = has configuration faultQueue && ltb count 3
 unfoldable pub shownOf : Bool → Out → Out
 shownOf queued o = record { high = o .high && not queued; low = o .low && not queued; crit = o .crit && not queued }
 
--- ---- P5: the live byte holds the bits true at this conversion
+-- ---- P5: the live byte holds the bits true at this conversion; P2: OPEN with an open diode; P12: D7, busy, is never set
 
 abbrev pub bitOf : Bool → ℕ → ℕ
 bitOf on bit = cond on bit 0

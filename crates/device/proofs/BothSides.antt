@@ -25,12 +25,16 @@ use Rattle.device.specs.declared.Device.{Device}
 use Rattle.device.specs.declared.Outcome.{Outcome}
 use Rattle.device.specs.Profile.{IsConversion}
 use Rattle.device.specs.Run.{repliesOf, afterOf}
-use Rattle.device.specs.BothSides.{Line, table, Conversions, BothSides}
+use Rattle.device.specs.BothSides.{heard, Line, table, Conversions, BothSides}
 use Rattle.device.proofs.Steps.{step-ind}
 
 ten-lines : map (λ (l : Line). repliesOf (afterOf (poweredOf 1) (l .scene)) (l .events)) table ≡ map (λ (l : Line). l .replies) table
 unfolding stepOf variantOf rangedOf masksOf operandsOf effectOf answerOf askedOf doneOf putOf storedOf firedOf getOf statusReadOf readOnlyValueOf valueOf maskedOf pointOf respondsOf respondOf takesOf convertedOf senseOf poweredOf comparatorOf watchedOf alertOf tcritOf pinsOf firstOf readingOf localLimitsOf remoteLimitsOf outOf anyOf countOf queuedOf shownOf liveOf latchOf sensedOf readableOf writableOf knownOf writePositionOf readPositionOf settingOf changedOf keptOf powerOnOf readOnlyOf addressOf degreesOf eighthsOf sumOf heldOf clearedOf
 ten-lines = refl
+
+all-heard : map (λ (l : Line). heard (repliesOf (poweredOf 1) (l .scene))) table ≡ map (λ (l : Line). true) table
+unfolding stepOf variantOf rangedOf masksOf operandsOf effectOf answerOf askedOf doneOf putOf storedOf firedOf getOf statusReadOf readOnlyValueOf valueOf maskedOf pointOf respondsOf respondOf takesOf convertedOf senseOf poweredOf comparatorOf watchedOf alertOf tcritOf pinsOf firstOf readingOf localLimitsOf remoteLimitsOf outOf anyOf countOf queuedOf shownOf liveOf latchOf sensedOf readableOf writableOf knownOf writePositionOf readPositionOf settingOf changedOf keptOf powerOnOf readOnlyOf addressOf degreesOf eighthsOf sumOf heldOf clearedOf
+all-heard = refl
 
 -- ---- local T_CRIT -128, hysteresis 1
 
@@ -92,4 +96,4 @@ run-stuck d (e ∷ es) c h = run-stuck (stepOf d e .device) es (c .1) (step-ind 
 
 pub both-sides : BothSides
 both-sides =
-    record { lines = ten-lines; never = λ d latch crit less es c. run-stuck d es c (record { latch = latch; crit = crit; less = less }) }
+    record { scenes = all-heard; lines = ten-lines; never = λ d latch crit less es c. run-stuck d es c (record { latch = latch; crit = crit; less = less }) }

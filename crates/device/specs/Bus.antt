@@ -23,7 +23,7 @@ use Rattle.device.specs.Pins.{configurationOf, comparatorOf, alertOf}
 
 -- ---- what an outcome is
 
--- nothing acknowledged, taken or changed
+-- this device after the event; not acknowledged, no conversion taken, no byte read
 abbrev pub silentOf : Device → Outcome
 silentOf d = record { device = d; acknowledged = false; taken = false; byte = 0 }
 
@@ -33,7 +33,7 @@ answeredOf d byte = record { device = d; acknowledged = true; taken = false; byt
 
 -- ---- how a device changes
 
--- the same device with this pointer, pending one-shot and settings
+-- the same device with this pointer, pending one-shot and settings; P8: no bus event moves what conversions have sensed
 abbrev pub setUpOf : Device → ℕ → Bool → List ℕ → Device
 setUpOf d pointer pending settings =
     record { variant = d .variant; pointer = pointer; pending = pending; status = d .status; sensed = d .sensed; settings = settings }
@@ -54,7 +54,8 @@ maskedOf d = setUpOf d (d .pointer) (d .pending) (changedOf (d .settings) 0x03 (
 abbrev pub storedIn : Device → ℕ → ℕ → ℕ → List ℕ
 storedIn d w i v = set (d .settings) i (bitAnd v (keptOf w))
 
--- the settable register w, at position i, keeps the value's kept bits; P11: leaving standby clears a pending one-shot
+-- the settable register w, at position i, keeps the value's kept bits; P10: w becomes the pointer; P11: leaving standby clears a
+-- pending one-shot
 unfoldable pub storedOf : Device → ℕ → ℕ → ℕ → Device
 storedOf d w i v = setUpOf d w (d .pending && standbyOf (storedIn d w i v)) (storedIn d w i v)
 

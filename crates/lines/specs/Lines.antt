@@ -38,7 +38,7 @@ zerosOf n =
     (cond (ltb n 1000000000) 1
     0))))))))
 
--- a number with no leading zeros
+-- a number below 10^10, with no leading zeros; a record count is below 2^32
 abbrev pub decimalOf : ℕ → List ℕ
 decimalOf n = drop (zerosOf n) (tenDigits n)
 

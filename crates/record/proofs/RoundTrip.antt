@@ -2,7 +2,7 @@
 -- event. `only-those`: any four bytes that read as it are those four, and it is allowed. So a refused event is read from nothing.
 -- Assumes nothing.
 use mathlib.Core.Path.{_≡_, refl}
-use mathlib.Core.Bool.{true}
+use mathlib.Core.Bool.{true, false}
 use mathlib.Core.List.{List, [], _∷_, map}
 use Prim.Native.Nat.{ℕ}
 use native.Mathlib.Omega.{arith}
@@ -15,7 +15,8 @@ use Rattle.device.specs.declared.Event.the-variants.{Write, Read, Send, Receive
 use Rattle.device.specs.Ranges.{operandsOf}
 use Rattle.device.proofs.Tests.{Each, each}
 use Rattle.record.specs.declared.Record.{Record}
-use Rattle.record.specs.declared.Record.the-variants.{Valid}
+use Rattle.record.specs.declared.Record.the-variants.{Valid, Refused}
+use Rattle.record.specs.declared.Refusal.the-variants.{Operand}
 use Rattle.record.specs.Record.{decodeOf, admitOf, goodOf, encodeOf}
 
 -- four bytes of a list, decoded
@@ -41,6 +42,17 @@ reads-back (Receive a) h = rw h
 reads-back (Convert a b c) h = rw h
 reads-back (Open a) h = rw h
 reads-back PowerOn h = rw h
+
+-- an event that the table does not allow is refused for its operand
+pub reads-refused : (e : Event) → operandsOf e ≡ false → readOf (encodeOf e) ≡ Refused Operand
+unfolding decodeOf encodeOf
+reads-refused (Write a b c) h = rw h
+reads-refused (Read a b) h = rw h
+reads-refused (Send a b) h = rw h
+reads-refused (Receive a) h = rw h
+reads-refused (Convert a b c) h = rw h
+reads-refused (Open a) h = rw h
+reads-refused PowerOn h = rw h
 
 -- ---- no other bytes read as it
 

@@ -25,7 +25,7 @@ refuses code = record { code = code; bytes = [] }
 unfoldable pub writeEventOf : Event → ℕ → Writing
 writeEventOf e room = cond (operandsOf e) (cond (leb 4 room) (writes (encodeOf e)) (refuses 7)) (refuses 4)
 
--- a capture's header: device count 1, variant, record count in four bytes, highest first
+-- beside document 01: a capture's header, device count 1, variant, record count in four bytes, highest first
 unfoldable pub headerOf : ℕ → ℕ → List ℕ
 headerOf variant count =
     1 ∷ variant ∷ count / 0x1000000 % 0x100 ∷ count / 0x10000 % 0x100 ∷ count / 0x100 % 0x100 ∷ count % 0x100 ∷ []
@@ -38,3 +38,10 @@ writeHeaderOf variant count room = cond (variantOf variant) (cond (leb 6 room) (
 pub record Wrote (w : Writing) (code : ℕ) (entry exit : List ℕ) : Type 0 where
   pub told : code ≡ w .code
   pub buffer : exit ≡ w .bytes ++ drop (length (w .bytes)) entry
+
+-- of an event, and of a header, into a room that held `entry`
+abbrev pub WroteEvent : Event → ℕ → List ℕ → List ℕ → Type 0
+WroteEvent e code entry exit = Wrote (writeEventOf e (length entry)) code entry exit
+
+abbrev pub WroteHeader : ℕ → ℕ → ℕ → List ℕ → List ℕ → Type 0
+WroteHeader variant count code entry exit = Wrote (writeHeaderOf variant count (length entry)) code entry exit

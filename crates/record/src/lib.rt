@@ -1,8 +1,7 @@
 // Records: four bytes to an event or a refusal, and back; the header's six bytes.
 ghost use mathlib.Core.Path.{_≡_};
-ghost use lib.ListN.{length};
 ghost use Rattle.record.specs.Record.{decodeOf, codeOf, admitOf, encodeOf};
-ghost use Rattle.record.specs.Writer.{headerOf, writeEventOf, writeHeaderOf, Wrote};
+ghost use Rattle.record.specs.Writer.{headerOf, WroteEvent, WroteHeader};
 use device::Event;
 
 // Why a record is refused.
@@ -72,7 +71,7 @@ pub fn encode(e: Event) -> [u8; 4]
 
 // The event's four bytes to the front of the room: 4 for an operand outside the table, then 7 for fewer than four bytes.
 pub fn write_event(e: Event, room: &mut [u8]) -> u8
-    ensures { λ r. ⌜ Wrote (writeEventOf e (length (now (room .entry)))) r (now (room .entry)) (now (room .exit)) ⌝ }
+    ensures { λ r. ⌜ WroteEvent e r (now (room .entry)) (now (room .exit)) ⌝ }
 {
     if !device::ranges::operands(e) {
         return 4;
@@ -100,7 +99,7 @@ fn header(variant: u8, count: u32) -> [u8; 6]
 
 // A capture's header to the front of the room: 2 for a variant other than 1 to 3, then 7 for fewer than six bytes.
 pub fn write_header(variant: u8, count: u32, room: &mut [u8]) -> u8
-    ensures { λ r. ⌜ Wrote (writeHeaderOf variant count (length (now (room .entry)))) r (now (room .entry)) (now (room .exit)) ⌝ }
+    ensures { λ r. ⌜ WroteHeader variant count r (now (room .entry)) (now (room .exit)) ⌝ }
 {
     if !device::ranges::variant(variant) {
         return 2;
