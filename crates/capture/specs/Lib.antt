@@ -5,3 +5,4 @@ pub mod Whole
 pub mod Schedule
 pub mod Written
 pub mod Codes
+pub mod Examples

@@ -1,3 +1,4 @@
 pub mod Record
 pub mod Writer
 pub mod Codes
+pub mod Examples
