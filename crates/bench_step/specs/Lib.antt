@@ -1,1 +1,2 @@
 pub mod BenchStep
+pub mod Examples
