@@ -15,7 +15,7 @@ use Rattle.capture.proofs.Cuts.{fresh-ranges}
 use Rattle.capture.proofs.Sections.{outcome, whole-run, whole-finishing}
 use Rattle.capture.proofs.Counts.{written-small}
 use Rattle.laws.proofs.Choices.{by-test}
-use Rattle.bench.specs.Bench.{Bench, lastOf, benchOf, Ran}
+use Rattle.bench.specs.Bench.{lastOf, benchOf, Ran, RanWhole}
 
 -- ---- the call against the whole-capture definition
 
@@ -52,8 +52,8 @@ ran xs entry fed m =
     rw e (record { told = rw (t .written, t .code, s .code, same); buffer = rw same at (t .buffer) }))
 
 -- two results that meet the promise are equal, and so are their buffers
-pub one-run : {b : Bench} {r s : ℕ} {entry exit exit′ : List ℕ} → Ran b r entry exit → Ran b s entry exit′ → (r ≡ s) × (exit ≡ exit′)
-one-run p q = (p .told ∙ sym (q .told), p .buffer ∙ sym (q .buffer))
+pub one-run : (capture : List ℕ) {r s : ℕ} {entry exit exit′ : List ℕ} → RanWhole capture r entry exit → RanWhole capture s entry exit′ → (r ≡ s) × (exit ≡ exit′)
+one-run capture p q = (p .told ∙ sym (q .told), p .buffer ∙ sym (q .buffer))
 
 -- a whole capture writes fewer than 2 ^ 33 answer bytes, so the result fits
 pub small : (xs entry : List ℕ) {exit : List ℕ} (fed : Fed) → Bytes xs → Meets (callOf freshOf xs (length entry)) fed entry exit → fed .written < 8589934592

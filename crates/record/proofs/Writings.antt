@@ -1,4 +1,4 @@
--- The three ways out of a writer, and that its promise has one answer: `one-writing`.
+-- The three ways out of a writer, and that its promise has one answer: `one-event`, `one-header`.
 -- Assumes nothing.
 use mathlib.Core.Path.{_≡_, refl, sym, _∙_}
 use mathlib.Core.Bool.{Bool, true, false, cond}
@@ -10,7 +10,7 @@ use borrow.Author.Tests.{le-leb, lt-leb}
 use Rattle.device.specs.declared.Event.{Event}
 use Rattle.device.specs.Ranges.{variantOf, operandsOf}
 use Rattle.record.specs.Record.{encodeOf}
-use Rattle.record.specs.Writer.{Writing, writes, refuses, headerOf, writeEventOf, writeHeaderOf, Wrote}
+use Rattle.record.specs.Writer.{Writing, writes, refuses, headerOf, writeEventOf, writeHeaderOf, Wrote, WroteEvent, WroteHeader}
 
 -- a good thing to write, n bytes of room wanted, `bad` the code of another
 abbrev pub writing : Bool → ℕ → ℕ → List ℕ → ℕ → Writing
@@ -27,8 +27,15 @@ module _ {good : Bool} (n room : ℕ) (bytes entry : List ℕ) (bad : ℕ) where
   written g h e = rw (g, le-leb n room h) (record { told = refl; buffer = e })
 
 -- two results that meet one promise are equal, and so are their buffers
-pub one-writing : {w : Writing} {code code′ : ℕ} {entry exit exit′ : List ℕ} → Wrote w code entry exit → Wrote w code′ entry exit′ → (code ≡ code′) × (exit ≡ exit′)
+one-writing : {w : Writing} {code code′ : ℕ} {entry exit exit′ : List ℕ} → Wrote w code entry exit → Wrote w code′ entry exit′ → (code ≡ code′) × (exit ≡ exit′)
 one-writing a b = (a .told ∙ sym (b .told), a .buffer ∙ sym (b .buffer))
+
+pub one-event : (e : Event) {code code′ : ℕ} {entry exit exit′ : List ℕ} → WroteEvent e code entry exit → WroteEvent e code′ entry exit′ → (code ≡ code′) × (exit ≡ exit′)
+one-event e a b = one-writing a b
+
+pub one-header : (variant count : ℕ) {code code′ : ℕ} {entry exit exit′ : List ℕ}
+    → WroteHeader variant count code entry exit → WroteHeader variant count code′ entry exit′ → (code ≡ code′) × (exit ≡ exit′)
+one-header variant count a b = one-writing a b
 
 -- ---- an event, and a header
 
