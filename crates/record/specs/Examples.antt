@@ -10,7 +10,7 @@ use Rattle.record.specs.declared.Record.{Record}
 use Rattle.record.specs.declared.Record.the-variants.{Valid, Refused}
 use Rattle.record.specs.declared.Refusal.the-variants.{Kind, Operand}
 use Rattle.record.specs.Record.{codeOf, decodeOf, encodeOf}
-use Rattle.record.specs.Writer.{writes, refuses, writeEventOf, headerOf, writeHeaderOf}
+use Rattle.record.specs.Writer.{writes, refuses, writeEventOf, headerOf, writeHeaderOf, WroteEvent, WroteHeader}
 
 pub record Row : Type 0 where
   pub kind : ℕ
@@ -85,3 +85,12 @@ pub header-rooms : map (λ (v : ℕ). map (writeHeaderOf v 1) (5 ∷ 6 ∷ [])) 
     (refuses 2 ∷ refuses 2 ∷ []) ∷ (refuses 7 ∷ writes (1 ∷ 1 ∷ 0 ∷ 0 ∷ 0 ∷ 1 ∷ []) ∷ []) ∷ (refuses 7 ∷ writes (1 ∷ 3 ∷ 0 ∷ 0 ∷ 0 ∷ 1 ∷ []) ∷ []) ∷ (refuses 2 ∷ refuses 2 ∷ []) ∷ []
 unfolding writeHeaderOf headerOf variantOf
 header-rooms = refl
+
+-- the promises, kept: the bytes in front, and the byte behind them as it was
+pub event-kept : WroteEvent (Receive 0x0C) 0 (9 ∷ 9 ∷ 9 ∷ 9 ∷ 9 ∷ []) (4 ∷ 0x0C ∷ 0 ∷ 0 ∷ 9 ∷ [])
+unfolding writeEventOf operandsOf encodeOf
+event-kept = record { told = refl; buffer = refl }
+
+pub header-kept : WroteHeader 2 0x01020304 0 (9 ∷ 9 ∷ 9 ∷ 9 ∷ 9 ∷ 9 ∷ 9 ∷ []) (1 ∷ 2 ∷ 1 ∷ 2 ∷ 3 ∷ 4 ∷ 9 ∷ [])
+unfolding writeHeaderOf headerOf variantOf
+header-kept = record { told = refl; buffer = refl }
