@@ -19,14 +19,6 @@ fn signed(word: u32) -> i16
     }
 }
 
-fn word(t: i16) -> u16 {
-    if t < 0 {
-        (t as i32 + 0x10000) as u16
-    } else {
-        t as u16
-    }
-}
-
 fn flag(on: bool) -> u8 {
     if on { 1 } else { 0 }
 }
@@ -84,7 +76,7 @@ pub(crate) fn reader_of(dump: &[u8]) -> Reader {
 pub(crate) fn put_device(out: &mut [u8], at: usize, d: Device) {
     let s = d.sensed;
     let settings = d.settings;
-    let remote = word(s.remote);
+    let remote = temperature::word(s.remote);
     let head = [
         d.variant,
         d.pointer,

@@ -56,7 +56,8 @@ pub fn cleared(t: i16, crit: u8, hysteresis: u8) -> bool
     t < eighths(crit, 0) - (hysteresis as i16) * 8
 }
 
-fn word(t: i16) -> u16
+// The sixteen bits of a number, two's complement.
+pub fn word(t: i16) -> u16
     ensures { λ r. ⌜ r ≡ wordOf t ⌝ }
 {
     if t < 0 {
