@@ -2,6 +2,7 @@ pub mod Sensor
 pub mod Reader
 pub mod Loops
 pub mod Whole
+pub mod Opened
 pub mod Schedule
 pub mod Written
 pub mod Codes

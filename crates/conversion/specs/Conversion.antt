@@ -25,7 +25,12 @@ unfoldable pub localLimitsOf : List ℕ → Limits
 localLimitsOf s = record { high = eighthsOf (settingOf s 0x05) 0; low = eighthsOf (settingOf s 0x06) 0; crit = eighthsOf (settingOf s 0x20) 0 }
 
 unfoldable pub remoteLimitsOf : List ℕ → Limits
-remoteLimitsOf s = record { high = eighthsOf (settingOf s 0x07) (settingOf s 0x13); low = eighthsOf (settingOf s 0x08) (settingOf s 0x14); crit = eighthsOf (settingOf s 0x19) 0 }
+remoteLimitsOf s =
+    record {
+      high = eighthsOf (settingOf s 0x07) (settingOf s 0x13);
+      low = eighthsOf (settingOf s 0x08) (settingOf s 0x14);
+      crit = eighthsOf (settingOf s 0x19) 0;
+    }
 
 -- which of its limits a reading is out of
 unfoldable pub outOf : ℤ → Limits → Out
@@ -55,7 +60,9 @@ bitOf on bit = cond on bit 0
 
 unfoldable pub liveOf : Out → Out → Bool → ℕ
 liveOf l r diodeOpen =
-    bitOr (bitOr (bitOr (bitOr (bitOr (bitOr (bitOf (l .high) LHIGH) (bitOf (l .low) LLOW)) (bitOf (r .high) RHIGH)) (bitOf (r .low) RLOW)) (bitOf diodeOpen OPEN)) (bitOf (r .crit) RCRIT)) (bitOf (l .crit) LCRIT)
+    let local = bitOr (bitOf (l .high) LHIGH) (bitOf (l .low) LLOW) in
+    let remote = bitOr (bitOr local (bitOf (r .high) RHIGH)) (bitOf (r .low) RLOW) in
+    bitOr (bitOr (bitOr remote (bitOf diodeOpen OPEN)) (bitOf (r .crit) RCRIT)) (bitOf (l .crit) LCRIT)
 
 -- ---- P8: a latch sets when its T_CRIT bit is live, clears when the reading is strictly below limit minus hysteresis, else holds
 

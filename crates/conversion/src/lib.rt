@@ -1,6 +1,7 @@
 // A taken conversion (P2 to P5, P8): what the device senses, and what follows from it.
 ghost use mathlib.Core.Path.{_≡_};
 ghost use Rattle.conversion.specs.Conversion.{readingOf, localLimitsOf, remoteLimitsOf, outOf, anyOf, countOf, queuedOf, shownOf, bitOf, liveOf, latchOf, sensedOf};
+use registers::bits;
 
 // All that only conversions and power-on move. Readings: local in degrees, a byte; remote in eighths.
 #[repr(C)]
@@ -86,7 +87,7 @@ fn count(faults: u8, out: bool) -> u8
 fn queued(configuration: u8, count: u8) -> bool
     ensures { λ r. ⌜ r ≡ queuedOf configuration count ⌝ }
 {
-    (configuration & 0x01 != 0) & (count < 3)
+    (configuration & bits::FAULT_QUEUE != 0) & (count < 3)
 }
 
 fn shown(queued: bool, o: Out) -> Out
@@ -110,13 +111,13 @@ pub fn bit(on: bool, bit: u8) -> u8
 fn live(l: Out, r: Out, broken: bool) -> u8
     ensures { λ b. ⌜ b ≡ liveOf l r broken ⌝ }
 {
-    bit(l.high, 0x40)
-        | bit(l.low, 0x20)
-        | bit(r.high, 0x10)
-        | bit(r.low, 0x08)
-        | bit(broken, 0x04)
-        | bit(r.crit, 0x02)
-        | bit(l.crit, 0x01)
+    bit(l.high, bits::LHIGH)
+        | bit(l.low, bits::LLOW)
+        | bit(r.high, bits::RHIGH)
+        | bit(r.low, bits::RLOW)
+        | bit(broken, bits::OPEN)
+        | bit(r.crit, bits::RCRIT)
+        | bit(l.crit, bits::LCRIT)
 }
 
 // P8, for either channel.

@@ -10,7 +10,8 @@ use Rattle.device.specs.declared.Event.the-variants.{Write, Read, Send, 
 use Rattle.device.specs.Pins.{comparatorOf, watchedOf, alertOf, tcritOf, pinsOf, firstOf}
 use Rattle.device.specs.Bus.{setUpOf, maskedOf, storedOf, firedOf, putOf, statusReadOf, readOnlyValueOf, valueOf, getOf, pointOf, respondsOf, respondOf, takesOf, convertedOf, senseOf, poweredOf, askedOf, doneOf}
 use Rattle.device.specs.Ranges.{variantOf, masksOf, rangedOf, operandsOf}
-use Rattle.device.specs.Step.{effectOf, answerOf, refusedOf, stepOf}
+use Rattle.device.specs.Opened.{deviceOpened}
+use Rattle.device.specs.Step.{refusedOf, stepOf}
 use Rattle.device.specs.declared.Device.{Device}
 
 -- pending out of standby
@@ -36,5 +37,5 @@ pub refusals :
     ∷ refusedOf (poweredOf 3) 4
     ∷ refusedOf (poweredOf 1) 4
     ∷ []
-unfolding stepOf variantOf rangedOf masksOf operandsOf effectOf answerOf askedOf doneOf putOf storedOf firedOf getOf statusReadOf readOnlyValueOf valueOf maskedOf pointOf respondsOf respondOf takesOf convertedOf senseOf poweredOf comparatorOf watchedOf alertOf tcritOf pinsOf firstOf readingOf localLimitsOf remoteLimitsOf outOf anyOf countOf queuedOf shownOf liveOf latchOf sensedOf readableOf writableOf knownOf writePositionOf readPositionOf settingOf changedOf keptOf powerOnOf readOnlyOf addressOf degreesOf eighthsOf sumOf heldOf clearedOf
+unfolding deviceOpened
 refusals = refl

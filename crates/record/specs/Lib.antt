@@ -1,4 +1,5 @@
 pub mod Record
 pub mod Writer
+pub mod Opened
 pub mod Codes
 pub mod Examples

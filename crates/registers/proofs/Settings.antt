@@ -1,17 +1,18 @@
 -- Where each named setting stands among the fourteen bytes, that every position is below 14 and every address below 80h.
 -- Assumes nothing.
 use mathlib.Core.Path.{_≡_, refl, ap, _∙_}
-use mathlib.Core.Bool.{Bool, true, false, cond}
+use mathlib.Core.Bool.{Bool, true, false, _||_, cond}
 use mathlib.Core.List.{List, [], _∷_, map}
 use Prim.Native.Nat.{ℕ, suc, _+_, _-_, _≤_, _<_}
 use native.Mathlib.Omega.{arith}
 use lib.Dec.{eqb, lit<}
 use lib.ListN.{getD, set, length}
 use borrow.Author.Tests.{eqb-true}
-use Rattle.laws.proofs.Choices.{by-test, or-right}
+use Rattle.laws.proofs.Choices.{by-test, clash, or-right}
 use Rattle.laws.proofs.Tables.{agree}
-use Rattle.registers.specs.declared.Position.the-variants.{At}
-use Rattle.registers.specs.Page.{Settable, settable, find, settingOf, changedOf, readPositionOf, writePositionOf, keptOf, knownOf, readableOf, writableOf, addressOf}
+use Rattle.registers.specs.declared.Position.{Position}
+use Rattle.registers.specs.declared.Position.the-variants.{At, Nowhere}
+use Rattle.registers.specs.Page.{W, Settable, settable, among, find, onPosition, settingOf, changedOf, readPositionOf, writePositionOf, settableOf, readAtOf, oneShot, keptOf, knownOf, readableOf, writableOf, addressOf}
 
 module _ (s : List ℕ) where
   pub configuration : settingOf s 0x03 ≡ getD s 0 0
@@ -128,6 +129,78 @@ write-writable w i e =
 pub write-known : (w i : ℕ) → writePositionOf w ≡ At i → knownOf w ≡ true
 unfolding knownOf
 write-known w i e = or-right (readableOf w) (writableOf w) (write-writable w i e)
+
+-- ---- a write, by register numbers and by position
+
+-- the register written at w is read at `readAtOf w`, where its byte stands
+pub write-read : (w i : ℕ) → writePositionOf w ≡ At i → readPositionOf (readAtOf w) ≡ At i
+unfolding readAtOf readPositionOf
+write-read w i e =
+    ap (λ (x : ℕ). readPositionOf (readAtOf x)) (write-entry w i e)
+    ∙ agree (λ k. readPositionOf (readAtOf (getD writeAddresses k 0))) (λ k. At k) 14 refl i (write-below w i e)
+
+pub write-changed : (s : List ℕ) (w i b : ℕ) → writePositionOf w ≡ At i → changedOf s (readAtOf w) b ≡ set s i b
+unfolding changedOf
+write-changed s w i b e = ap (λ (p : Position). onPosition p (λ j. set s j b) s) (write-read w i e)
+
+-- 0F holds no byte
+pub write-not-shot : (w i : ℕ) → writePositionOf w ≡ At i → eqb w oneShot ≡ false
+write-not-shot w i e =
+    ap (λ (x : ℕ). eqb x oneShot) (write-entry w i e)
+    ∙ agree (λ k. eqb (getD writeAddresses k 0) oneShot) (λ k. false) 14 refl i (write-below w i e)
+
+-- an entry of a list is at some place of it
+record Entry (x : ℕ) (l : List ℕ) : Type 0 where
+  place : ℕ
+  inside : place < length l
+  there : x ≡ getD l place 0
+
+entry-of : (x : ℕ) (l : List ℕ) → among x l ≡ true → Entry x l
+entry-of x [] e = clash e
+entry-of x (y ∷ ys) e =
+    by-test (eqb x y) (λ t. record { place = 0; inside = omega arith; there = eqb-true x y t })
+    (λ t. behind (entry-of x ys (rw t at e)))
+  where
+    behind : Entry x ys → Entry x (y ∷ ys)
+    behind f = record { place = suc (f .place); inside = omega (arith, f .inside); there = f .there }
+
+abbrev pub somewhere : Position → Bool
+somewhere (At i) = true
+somewhere Nowhere = false
+
+-- a writable register has a position, but for 0F
+pub write-somewhere : (w : ℕ) → writableOf w ≡ true → (eqb w oneShot || somewhere (writePositionOf w)) ≡ true
+unfolding writableOf writePositionOf
+write-somewhere w e =
+    let f = entry-of w W e in
+    ap (λ (x : ℕ). eqb x oneShot || somewhere (writePositionOf x)) (f .there)
+    ∙ agree (λ k. eqb (getD W k 0) oneShot || somewhere (writePositionOf (getD W k 0))) (λ k. true) 15 refl (f .place) (f .inside)
+
+-- so what is writable and has none is 0F
+pub write-shot : (w : ℕ) → writableOf w ≡ true → writePositionOf w ≡ Nowhere → eqb w oneShot ≡ true
+write-shot w e n = by-test (eqb w oneShot) (λ t. t) (λ t. clash (rw (t, n) at (write-somewhere w e)))
+
+-- and every other has one
+pub record Placed (w : ℕ) : Type 0 where
+  pub place : ℕ
+  pub there : writePositionOf w ≡ At place
+
+pub write-placed : (w : ℕ) → writableOf w ≡ true → eqb w oneShot ≡ false → Placed w
+write-placed w e n = split (writePositionOf w) refl (rw n at (write-somewhere w e))
+  where
+    split : (p : Position) → writePositionOf w ≡ p → somewhere p ≡ true → Placed w
+    split (At i) q t = record { place = i; there = q }
+    split Nowhere q t = clash t
+
+-- ---- a read, by register numbers and by position
+
+find-among : (x n : ℕ) (l : List ℕ) → somewhere (find x n l) ≡ among x l
+find-among x n [] = refl
+find-among x n (y ∷ ys) = by-test (eqb x y) (λ t. rw t) (λ t. rw t (find-among x (suc n) ys))
+
+pub settable-position : (r : ℕ) → somewhere (readPositionOf r) ≡ settableOf r
+unfolding settableOf readPositionOf
+settable-position r = find-among r 0 (map (λ (s : Settable). s .read) settable)
 
 -- ---- addresses
 

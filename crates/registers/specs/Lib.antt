@@ -1,3 +1,4 @@
 pub mod Bits
 pub mod Page
+pub mod Opened
 pub mod Printed

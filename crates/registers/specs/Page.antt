@@ -162,6 +162,18 @@ settingOf bytes r = onPosition (readPositionOf r) (λ i. getD bytes i 0) 0
 unfoldable pub changedOf : List ℕ → ℕ → ℕ → List ℕ
 changedOf bytes r b = onPosition (readPositionOf r) (λ i. set bytes i b) bytes
 
+-- a settable register is read at r
+unfoldable pub settableOf : ℕ → Bool
+settableOf r = among r (map (λ (s : Settable). s .read) settable)
+
+-- where the register that is written at w is read: 09 to 0E are 03 to 08 in that order, the others keep their number
+abbrev readIn : ℕ → List Settable → ℕ
+readIn w [] = w
+readIn w (s ∷ ss) = cond (eqb w (s .write)) (s .read) (readIn w ss)
+
+unfoldable pub readAtOf : ℕ → ℕ
+readAtOf w = readIn w settable
+
 -- kept bits, by either of a register's numbers; all bits where the page names none
 abbrev keptIn : ℕ → List Settable → ℕ
 keptIn r [] = 0xFF

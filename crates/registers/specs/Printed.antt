@@ -5,7 +5,7 @@ use mathlib.Core.Bool.{true, false}
 use mathlib.Core.List.{[], _∷_, map}
 use Prim.Native.Nat.{ℕ}
 use Rattle.registers.specs.declared.Position.the-variants.{At, Nowhere}
-use Rattle.registers.specs.Page.{R, W, settable, Settable, readableOf, writableOf, knownOf, writePositionOf, readPositionOf, keptOf, powerOnOf, readOnlyOf, addressOf}
+use Rattle.registers.specs.Page.{R, W, settable, Settable, readableOf, writableOf, knownOf, writePositionOf, readPositionOf, keptOf, readAtOf, settableOf, powerOnOf, readOnlyOf, addressOf}
 
 pub R-printed : R ≡ 0x00 ∷ 0x01 ∷ 0x02 ∷ 0x03 ∷ 0x04 ∷ 0x05 ∷ 0x06 ∷ 0x07 ∷ 0x08 ∷ 0x10 ∷ 0x11 ∷ 0x12 ∷ 0x13 ∷ 0x14 ∷ 0x19 ∷ 0x20 ∷ 0x21 ∷ 0xBF ∷ 0xFE ∷ 0xFF ∷ []
 R-printed = refl
@@ -19,6 +19,18 @@ read-at = refl
 
 pub written-at : map (λ (s : Settable). s .write) settable ≡ 0x09 ∷ 0x0A ∷ 0x0B ∷ 0x0C ∷ 0x0D ∷ 0x0E ∷ 0x11 ∷ 0x12 ∷ 0x13 ∷ 0x14 ∷ 0x19 ∷ 0x20 ∷ 0x21 ∷ 0xBF ∷ []
 written-at = refl
+
+-- 09 to 0E are 03 to 08 in that order
+pub read-back-at : map readAtOf (0x09 ∷ 0x0A ∷ 0x0B ∷ 0x0C ∷ 0x0D ∷ 0x0E ∷ 0x11 ∷ 0xBF ∷ [])
+    ≡ 0x03 ∷ 0x04 ∷ 0x05 ∷ 0x06 ∷ 0x07 ∷ 0x08 ∷ 0x11 ∷ 0xBF ∷ []
+unfolding readAtOf
+read-back-at = refl
+
+-- readings, status, 0F, manufacturer and die revision are not settable
+pub settable-printed : map settableOf (0x00 ∷ 0x02 ∷ 0x03 ∷ 0x09 ∷ 0x0F ∷ 0x10 ∷ 0x14 ∷ 0xBF ∷ 0xFE ∷ [])
+    ≡ false ∷ false ∷ true ∷ false ∷ false ∷ false ∷ true ∷ true ∷ false ∷ []
+unfolding settableOf
+settable-printed = refl
 
 -- the position of the first and of the last settable register, by both numbers; 0F and 00 have none
 pub positions : map writePositionOf (0x09 ∷ 0xBF ∷ 0x03 ∷ 0x0F ∷ []) ≡ At 0 ∷ At 13 ∷ Nowhere ∷ Nowhere ∷ []

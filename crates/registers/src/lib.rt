@@ -6,6 +6,8 @@ ghost use lib.Dec.{eqb, ltb, leb};
 ghost use lib.Bits.{bitAnd};
 ghost use Rattle.registers.specs.Page.{readableOf, writableOf, knownOf, writePositionOf, readPositionOf, keptOf, powerOnOf, readOnlyOf, addressOf};
 
+pub mod bits;
+
 // Where a settable register's byte stands among the fourteen.
 pub enum Position {
     At(u8),
@@ -126,10 +128,10 @@ pub fn read_position(reg: u8) -> Position
 pub fn kept(reg: u8) -> u8
     ensures { λ r. ⌜ r ≡ keptOf reg ⌝ }
 {
-    only((reg == 0x03) | (reg == 0x09), 0xD5)
-        & only((0x12 <= reg) & (reg <= 0x14), 0xE0)
-        & only(reg == 0x21, 0x1F)
-        & only(reg == 0xBF, 0x07)
+    only((reg == 0x03) | (reg == 0x09), bits::CONFIGURATION_KEPT)
+        & only((0x12 <= reg) & (reg <= 0x14), bits::PART_KEPT)
+        & only(reg == 0x21, bits::HYSTERESIS_KEPT)
+        & only(reg == 0xBF, bits::FILTER_ALERT_KEPT)
 }
 
 // The fourteen bytes at power-on; none but variants 1 to 3 has a table.

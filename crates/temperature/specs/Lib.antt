@@ -1,2 +1,3 @@
 pub mod Temperature
+pub mod Opened
 pub mod Vectors

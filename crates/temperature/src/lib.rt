@@ -2,6 +2,14 @@
 ghost use mathlib.Core.Path.{_≡_};
 ghost use Rattle.temperature.specs.Temperature.{degreesOf, eighthsOf, heldOf, heldSumOf, aboveOf, belowOf, clearedOf, wordOf, highByteOf, lowByteOf};
 
+// The ends of the scale, in eighths.
+pub const LOWEST: i16 = -1024;
+
+pub const HIGHEST: i16 = 1023;
+
+// P2: the reading of an open diode, 127 degrees.
+pub const OPEN_READING: i16 = 1016;
+
 // P1: a byte as whole degrees.
 pub fn degrees(b: u8) -> i16
     ensures { λ r. ⌜ r ≡ degreesOf b ⌝ }
@@ -19,10 +27,10 @@ pub fn eighths(high: u8, low: u8) -> i16
 fn hold(sum: i16) -> i16
     ensures { λ r. ⌜ r ≡ heldOf sum ⌝ }
 {
-    if 1023 < sum {
-        1023
-    } else if sum < -1024 {
-        -1024
+    if HIGHEST < sum {
+        HIGHEST
+    } else if sum < LOWEST {
+        LOWEST
     } else {
         sum
     }

@@ -1,0 +1,9 @@
+-- `recordOpened` on the `unfolding` line of a theorem that is computed opens every definition of this crate and of those below it.
+-- Assumes nothing.
+use Rattle.device.specs.Opened.{deviceOpened}
+use Rattle.record.specs.Record.{codeOf, decodeOf, encodeOf}
+use Rattle.record.specs.Writer.{writeEventOf, headerOf, writeHeaderOf}
+
+unfoldable pub recordOpened : Unit {0}
+unfolding deviceOpened codeOf decodeOf encodeOf writeEventOf headerOf writeHeaderOf
+recordOpened = tt
