@@ -3,16 +3,8 @@
 use Prim.Native.Nat.{ℕ}
 use mathlib.Core.Path.{_≡_, refl}
 use mathlib.Core.List.{List, [], _∷_, map}
-use Rattle.temperature.specs.Temperature.{degreesOf, eighthsOf, sumOf, heldOf, clearedOf}
-use Rattle.registers.specs.Page.{readableOf, writableOf, knownOf, writePositionOf, readPositionOf, settingOf, changedOf, keptOf, powerOnOf, readOnlyOf, addressOf}
-use Rattle.conversion.specs.Conversion.{readingOf, localLimitsOf, remoteLimitsOf, outOf, anyOf, countOf, queuedOf, shownOf, liveOf, latchOf, sensedOf}
-use Rattle.device.specs.Pins.{comparatorOf, watchedOf, alertOf, tcritOf, pinsOf, firstOf}
-use Rattle.device.specs.Bus.{maskedOf, storedOf, firedOf, putOf, statusReadOf, readOnlyValueOf, valueOf, getOf, pointOf, respondsOf, respondOf, takesOf, convertedOf, senseOf, poweredOf, askedOf, doneOf}
-use Rattle.device.specs.Ranges.{variantOf, masksOf, rangedOf, operandsOf}
-use Rattle.device.specs.Step.{effectOf, answerOf}
-use Rattle.record.specs.Record.{decodeOf, codeOf}
-use Rattle.capture.specs.Whole.{wholeOf, variantsOf, recordCountOf, recordsOf}
 use Rattle.bench.specs.Bench.{Bench, benchOf, RanWhole}
+use Rattle.capture.specs.Opened.{captureOpened}
 
 pub record Run : Type 0 where
   pub capture : List ℕ
@@ -38,10 +30,10 @@ runs =
     []
 
 pub worked : map (λ (r : Run). benchOf (r .capture) (r .room)) runs ≡ map (λ (r : Run). r .bench) runs
-unfolding benchOf variantOf rangedOf masksOf operandsOf effectOf answerOf askedOf doneOf putOf storedOf firedOf getOf statusReadOf readOnlyValueOf valueOf maskedOf pointOf respondsOf respondOf takesOf convertedOf senseOf poweredOf comparatorOf watchedOf alertOf tcritOf pinsOf firstOf readingOf localLimitsOf remoteLimitsOf outOf anyOf countOf queuedOf shownOf liveOf latchOf sensedOf readableOf writableOf knownOf writePositionOf readPositionOf settingOf changedOf keptOf powerOnOf readOnlyOf addressOf degreesOf eighthsOf sumOf heldOf clearedOf decodeOf codeOf wholeOf variantsOf recordCountOf recordsOf
+unfolding captureOpened benchOf
 worked = refl
 
 -- the promise, kept: 4 answer bytes and code 0 are 64, and the byte behind them is as it was
 pub kept : RanWhole (0x01 ∷ 0x01 ∷ 0x00 ∷ 0x00 ∷ 0x00 ∷ 0x02 ∷ 0x05 ∷ 0x14 ∷ 0x00 ∷ 0x00 ∷ 0x02 ∷ 0x4C ∷ 0x00 ∷ 0x00 ∷ []) 64 (9 ∷ 9 ∷ 9 ∷ 9 ∷ 9 ∷ []) (0x08 ∷ 0x00 ∷ 0x04 ∷ 0x14 ∷ 9 ∷ [])
-unfolding benchOf variantOf rangedOf masksOf operandsOf effectOf answerOf askedOf doneOf putOf storedOf firedOf getOf statusReadOf readOnlyValueOf valueOf maskedOf pointOf respondsOf respondOf takesOf convertedOf senseOf poweredOf comparatorOf watchedOf alertOf tcritOf pinsOf firstOf readingOf localLimitsOf remoteLimitsOf outOf anyOf countOf queuedOf shownOf liveOf latchOf sensedOf readableOf writableOf knownOf writePositionOf readPositionOf settingOf changedOf keptOf powerOnOf readOnlyOf addressOf degreesOf eighthsOf sumOf heldOf clearedOf decodeOf codeOf wholeOf variantsOf recordCountOf recordsOf
+unfolding captureOpened benchOf
 kept = record { told = refl; buffer = refl }

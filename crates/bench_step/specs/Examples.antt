@@ -3,16 +3,11 @@
 use Prim.Native.Nat.{ℕ}
 use mathlib.Core.Path.{_≡_, refl}
 use mathlib.Core.List.{List, [], _∷_, map}
-use Rattle.temperature.specs.Temperature.{degreesOf, eighthsOf, sumOf, heldOf, clearedOf}
-use Rattle.registers.specs.Page.{readableOf, writableOf, knownOf, writePositionOf, readPositionOf, settingOf, changedOf, keptOf, powerOnOf as pagePowerOnOf, readOnlyOf, addressOf}
-use Rattle.conversion.specs.Conversion.{readingOf, localLimitsOf, remoteLimitsOf, outOf, anyOf, countOf, queuedOf, shownOf, liveOf, latchOf, sensedOf}
-use Rattle.device.specs.Pins.{comparatorOf, watchedOf, alertOf, tcritOf, pinsOf, firstOf}
-use Rattle.device.specs.Bus.{maskedOf, storedOf, firedOf, putOf, statusReadOf, readOnlyValueOf, valueOf, getOf, pointOf, respondsOf, respondOf, takesOf, convertedOf, senseOf, poweredOf, askedOf, doneOf}
-use Rattle.device.specs.Ranges.{variantOf, masksOf, rangedOf, operandsOf}
-use Rattle.device.specs.Step.{effectOf, answerOf, stepOf}
-use Rattle.record.specs.Record.{decodeOf, codeOf}
+use Rattle.device.specs.Bus.{poweredOf}
+use Rattle.device.specs.Ranges.{variantOf}
 use Rattle.bench_step.specs.declared.Taken.{Taken}
 use Rattle.bench_step.specs.BenchStep.{stepBytesOf, powerOnOf}
+use Rattle.record.specs.Opened.{recordOpened}
 
 pub record Step : Type 0 where
   pub variant : ℕ
@@ -46,7 +41,7 @@ toldOf t = t .answer .code ∷ t .answer .first ∷ t .answer .second ∷ t .dev
 
 pub worked :
     map (λ (s : Step). toldOf (stepBytesOf (powerOnOf (s .variant)) (s .kind) (s .a) (s .b) (s .c))) steps ≡ map (λ (s : Step). s .told) steps
-unfolding stepBytesOf powerOnOf stepOf variantOf rangedOf masksOf operandsOf effectOf answerOf askedOf doneOf putOf storedOf firedOf getOf statusReadOf readOnlyValueOf valueOf maskedOf pointOf respondsOf respondOf takesOf convertedOf senseOf poweredOf comparatorOf watchedOf alertOf tcritOf pinsOf firstOf readingOf localLimitsOf remoteLimitsOf outOf anyOf countOf queuedOf shownOf liveOf latchOf sensedOf readableOf writableOf knownOf writePositionOf readPositionOf settingOf changedOf keptOf pagePowerOnOf readOnlyOf addressOf degreesOf eighthsOf sumOf heldOf clearedOf decodeOf codeOf
+unfolding recordOpened stepBytesOf powerOnOf
 worked = refl
 
 pub variants : map (λ (v : ℕ). powerOnOf v .variant) (0 ∷ 1 ∷ 2 ∷ 3 ∷ 4 ∷ []) ≡ 0 ∷ 1 ∷ 2 ∷ 3 ∷ 0 ∷ []

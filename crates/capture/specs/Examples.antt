@@ -4,17 +4,11 @@ use Prim.Native.Nat.{ℕ}
 use mathlib.Core.Path.{_≡_, refl}
 use mathlib.Core.Bool.{Bool, true, false}
 use mathlib.Core.List.{List, [], _∷_, map}
-use Rattle.temperature.specs.Temperature.{degreesOf, eighthsOf, sumOf, heldOf, clearedOf}
-use Rattle.registers.specs.Page.{readableOf, writableOf, knownOf, writePositionOf, readPositionOf, settingOf, changedOf, keptOf, powerOnOf, readOnlyOf, addressOf}
-use Rattle.conversion.specs.Conversion.{readingOf, localLimitsOf, remoteLimitsOf, outOf, anyOf, countOf, queuedOf, shownOf, liveOf, latchOf, sensedOf}
-use Rattle.device.specs.Pins.{comparatorOf, watchedOf, alertOf, tcritOf, pinsOf, firstOf}
-use Rattle.device.specs.Bus.{maskedOf, storedOf, firedOf, putOf, statusReadOf, readOnlyValueOf, valueOf, getOf, pointOf, respondsOf, respondOf, takesOf, convertedOf, senseOf, poweredOf, askedOf, doneOf}
-use Rattle.device.specs.Ranges.{variantOf, masksOf, rangedOf, operandsOf}
-use Rattle.device.specs.Step.{effectOf, answerOf}
-use Rattle.record.specs.Record.{decodeOf, codeOf}
+use Rattle.device.specs.Bus.{poweredOf}
 use Rattle.capture.specs.declared.Reader.{Reader}
-use Rattle.capture.specs.Reader.{Out, freshOf, headOf, recordOf, turnOf, placeOf, rangesOf, feedOf, callOf, finishOf}
-use Rattle.capture.specs.Whole.{Whole, wholeOf, variantsOf, recordCountOf, recordsOf}
+use Rattle.capture.specs.Reader.{Out, freshOf, rangesOf, callOf, finishOf}
+use Rattle.capture.specs.Whole.{Whole, wholeOf}
+use Rattle.capture.specs.Opened.{captureOpened}
 
 -- what a delegate can check by hand of an outcome: all but the device
 pub record Summary : Type 0 where
@@ -122,7 +116,7 @@ abbrev ofWhole : Whole → Summary
 ofWhole w = summed (w .code) (w .consumed) (w .answers) (w .finishing) (w .reader)
 
 pub wholes : map (λ (x : Example). ofWhole (wholeOf (x .capture))) captures ≡ map (λ (x : Example). x .summary) captures
-unfolding variantOf rangedOf masksOf operandsOf effectOf answerOf askedOf doneOf putOf storedOf firedOf getOf statusReadOf readOnlyValueOf valueOf maskedOf pointOf respondsOf respondOf takesOf convertedOf senseOf poweredOf comparatorOf watchedOf alertOf tcritOf pinsOf firstOf readingOf localLimitsOf remoteLimitsOf outOf anyOf countOf queuedOf shownOf liveOf latchOf sensedOf readableOf writableOf knownOf writePositionOf readPositionOf settingOf changedOf keptOf powerOnOf readOnlyOf addressOf degreesOf eighthsOf sumOf heldOf clearedOf decodeOf codeOf wholeOf variantsOf recordCountOf recordsOf
+unfolding captureOpened
 wholes = refl
 
 -- ---- rooms
@@ -166,7 +160,7 @@ abbrev ofCall : Out → Summary
 ofCall o = summed (o .code) (o .consumed) (o .answers) (finishOf (o .reader)) (o .reader)
 
 pub calls : map (λ (x : Roomed). ofCall (callOf freshOf (x .capture) (x .room))) roomed ≡ map (λ (x : Roomed). x .summary) roomed
-unfolding variantOf rangedOf masksOf operandsOf effectOf answerOf askedOf doneOf putOf storedOf firedOf getOf statusReadOf readOnlyValueOf valueOf maskedOf pointOf respondsOf respondOf takesOf convertedOf senseOf poweredOf comparatorOf watchedOf alertOf tcritOf pinsOf firstOf readingOf localLimitsOf remoteLimitsOf outOf anyOf countOf queuedOf shownOf liveOf latchOf sensedOf readableOf writableOf knownOf writePositionOf readPositionOf settingOf changedOf keptOf powerOnOf readOnlyOf addressOf degreesOf eighthsOf sumOf heldOf clearedOf decodeOf codeOf wholeOf variantsOf recordCountOf recordsOf headOf recordOf turnOf placeOf rangesOf feedOf
+unfolding captureOpened
 calls = refl
 
 -- ---- ranges
@@ -223,5 +217,5 @@ ends =
     []
 
 pub tested : map (λ (e : Ended). rangesOf (e .reader)) ends ≡ map (λ (e : Ended). e .within) ends
-unfolding rangesOf placeOf variantOf rangedOf masksOf poweredOf powerOnOf readOnlyOf settingOf readPositionOf knownOf readableOf writableOf keptOf eighthsOf degreesOf
+unfolding captureOpened
 tested = refl

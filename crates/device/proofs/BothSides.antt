@@ -12,15 +12,14 @@ use lib.Dec.{lit<}
 use borrow.Author.Tests.{le-ltb}
 use Rattle.laws.proofs.Choices.{cond-ind}
 use Rattle.temperature.proofs.Laws.{eighths-within}
-use Rattle.temperature.specs.Temperature.{degreesOf, eighthsOf, sumOf, heldOf, clearedOf}
-use Rattle.registers.specs.Page.{readableOf, writableOf, knownOf, writePositionOf, readPositionOf, settingOf, changedOf, keptOf, powerOnOf, readOnlyOf, addressOf}
-use Rattle.conversion.specs.Conversion.{readingOf, localLimitsOf, remoteLimitsOf, outOf, anyOf, countOf, queuedOf, shownOf, liveOf, latchOf, sensedOf}
+use Rattle.temperature.specs.Temperature.{degreesOf, eighthsOf, clearedOf}
+use Rattle.registers.specs.Page.{settingOf}
+use Rattle.conversion.specs.Conversion.{latchOf, sensedOf}
 use Rattle.device.specs.declared.Event.{Event}
 use Rattle.device.specs.declared.Event.the-variants.{Write, Read, Send, Receive, Convert, Open, PowerOn}
-use Rattle.device.specs.Pins.{comparatorOf, watchedOf, alertOf, tcritOf, pinsOf, firstOf}
-use Rattle.device.specs.Bus.{maskedOf, storedOf, firedOf, putOf, statusReadOf, readOnlyValueOf, valueOf, getOf, pointOf, respondsOf, respondOf, takesOf, convertedOf, senseOf, poweredOf, askedOf, doneOf}
-use Rattle.device.specs.Ranges.{variantOf, masksOf, rangedOf, operandsOf}
-use Rattle.device.specs.Step.{effectOf, answerOf, stepOf}
+use Rattle.device.specs.Bus.{takesOf, convertedOf, senseOf, poweredOf}
+use Rattle.device.specs.Opened.{deviceOpened}
+use Rattle.device.specs.Step.{effectOf, stepOf}
 use Rattle.device.specs.declared.Device.{Device}
 use Rattle.device.specs.declared.Outcome.{Outcome}
 use Rattle.device.specs.Profile.{IsConversion}
@@ -29,11 +28,11 @@ use Rattle.device.specs.BothSides.{heard, Line, table, Conversions, Both
 use Rattle.device.proofs.Steps.{step-ind}
 
 ten-lines : map (λ (l : Line). repliesOf (afterOf (poweredOf 1) (l .scene)) (l .events)) table ≡ map (λ (l : Line). l .replies) table
-unfolding stepOf variantOf rangedOf masksOf operandsOf effectOf answerOf askedOf doneOf putOf storedOf firedOf getOf statusReadOf readOnlyValueOf valueOf maskedOf pointOf respondsOf respondOf takesOf convertedOf senseOf poweredOf comparatorOf watchedOf alertOf tcritOf pinsOf firstOf readingOf localLimitsOf remoteLimitsOf outOf anyOf countOf queuedOf shownOf liveOf latchOf sensedOf readableOf writableOf knownOf writePositionOf readPositionOf settingOf changedOf keptOf powerOnOf readOnlyOf addressOf degreesOf eighthsOf sumOf heldOf clearedOf
+unfolding deviceOpened
 ten-lines = refl
 
 all-heard : map (λ (l : Line). heard (repliesOf (poweredOf 1) (l .scene))) table ≡ map (λ (l : Line). true) table
-unfolding stepOf variantOf rangedOf masksOf operandsOf effectOf answerOf askedOf doneOf putOf storedOf firedOf getOf statusReadOf readOnlyValueOf valueOf maskedOf pointOf respondsOf respondOf takesOf convertedOf senseOf poweredOf comparatorOf watchedOf alertOf tcritOf pinsOf firstOf readingOf localLimitsOf remoteLimitsOf outOf anyOf countOf queuedOf shownOf liveOf latchOf sensedOf readableOf writableOf knownOf writePositionOf readPositionOf settingOf changedOf keptOf powerOnOf readOnlyOf addressOf degreesOf eighthsOf sumOf heldOf clearedOf
+unfolding deviceOpened
 all-heard = refl
 
 -- ---- local T_CRIT -128, hysteresis 1
@@ -81,7 +80,7 @@ sense-stuck d local remote broken h =
     cond-ind (λ (o : Outcome). Stuck (o .device)) (takesOf d) (λ _. converted-stuck d local remote broken h) (λ _. h)
 
 effect-stuck : (d : Device) (e : Event) → IsConversion e → Stuck d → Stuck (effectOf d e .device)
-unfolding effectOf askedOf doneOf
+unfolding effectOf
 effect-stuck d (Write a w v) c h = absurd c
 effect-stuck d (Read a r) c h = absurd c
 effect-stuck d (Send a r) c h = absurd c

@@ -1,5 +1,5 @@
 -- No event leaves the ranges: `kept` says it of any device that is in its ranges, and `powered-in-range` of a device as after
--- power-on, of any variant. `same-variant`: no event changes the variant.
+-- power-on, of any variant.
 -- Assumes nothing.
 use mathlib.Core.Path.{_≡_, refl, sym, ap, subst, _∙_}
 use mathlib.Core.Bool.{Bool, true, false, not, cond, _||_, _&&_}
@@ -17,11 +17,11 @@ use Rattle.laws.proofs.Choices.{cond-ind, or-left}
 use Rattle.laws.proofs.Tables.{agree}
 use Rattle.temperature.specs.Temperature.{degreesOf, eighthsOf, openReading}
 use Rattle.temperature.proofs.Laws.{held-scale}
-use Rattle.registers.specs.Bits.{has}
-use Rattle.registers.specs.Page.{knownOf, readableOf, writableOf, writePositionOf, readPositionOf, onPosition, settingOf, changedOf, keptOf, powerOnOf, readOnlyOf, addressOf, Settable, settable}
-use Rattle.registers.specs.declared.Position.{Position}
-use Rattle.registers.specs.declared.Position.the-variants.{At, Nowhere}
-use Rattle.registers.proofs.Settings.{configuration, change-configuration, write-kept, write-known}
+use Rattle.registers.specs.Bits.{has, alerting}
+use Rattle.registers.specs.Page.{knownOf, readableOf, writableOf, writePositionOf, readPositionOf, oneShot, settingOf, changedOf, keptOf}
+use Rattle.registers.specs.Page.{powerOnOf, readOnlyOf, addressOf, Settable, settable}
+use Rattle.registers.specs.declared.Position.the-variants.{At}
+use Rattle.registers.proofs.Settings.{keptAt, configuration, change-configuration, write-kept, write-known, write-changed, write-placed}
 use Rattle.registers.proofs.Entries.{zero-at}
 use Rattle.conversion.specs.Conversion.{readingOf, sensedOf}
 use Rattle.conversion.proofs.Bounds.{count-bound, live-bound}
@@ -29,10 +29,9 @@ use Rattle.device.specs.declared.Device.{Device}
 use Rattle.device.specs.declared.Outcome.{Outcome}
 use Rattle.device.specs.declared.Event.{Event}
 use Rattle.device.specs.declared.Event.the-variants.{Write, Read, Send, Receive, Convert, Open, PowerOn}
-use Rattle.device.specs.declared.Asked.{Asked}
-use Rattle.device.specs.declared.Asked.the-variants.{Put, Get, Point}
 use Rattle.device.specs.Pins.{comparatorOf}
-use Rattle.device.specs.Bus.{standbyOf, pointedOf, maskedOf, storedOf, storedIn, firedOf, putOf, statusClearedOf, statusReadOf, afterReadOf, getOf, pointOf, respondsOf, respondOf, takesOf, convertedOf, senseOf, poweredOf, alertResponse, atOf, askedOf, doneOf}
+use Rattle.device.specs.Bus.{standbyOf, pointedOf, maskedOf, storedOf, storedIn, firedOf, putOf, statusClearedOf, statusReadOf}
+use Rattle.device.specs.Bus.{afterReadOf, getOf, pointOf, respondsOf, respondOf, takesOf, convertedOf, senseOf, poweredOf, alertResponse, atOf}
 use Rattle.device.specs.Ranges.{masksOf, rangeTests, rangedOf}
 use Rattle.device.specs.Step.{effectOf}
 use Rattle.device.proofs.Tests.{each, of-each}
@@ -77,7 +76,7 @@ module _ {d : Device} (r : Ranged d) where
   pointed-ranged reg k =
       record { faults = r .faults; under = r .under; over = r .over; pointer = k; status = r .status; live = r .live; masks = r .masks; pending = r .pending }
 
-  stored-ranged : (w i v : ℕ) → writePositionOf w ≡ At i → Ranged (storedOf d w i v)
+  stored-ranged : (w i v : ℕ) → writePositionOf w ≡ At i → Ranged (storedOf d w v)
   unfolding storedOf
   stored-ranged w i v p =
       record {
@@ -87,10 +86,13 @@ module _ {d : Device} (r : Ranged d) where
         pointer = write-known w i p;
         status = r .status;
         live = r .live;
-        masks = set-masks (d .settings) i (bitAnd v (keptOf w)) (rw (← (write-kept w i p)) (and-again v (keptOf w))) (r .masks);
-        pending = both (d .pending) (standbyOf (storedIn d w i v));
+        masks = rw (write-changed (d .settings) w i (bitAnd v (keptOf w)) p) (set-masks (d .settings) i (bitAnd v (keptOf w)) (stays w i v p) (r .masks));
+        pending = both (d .pending) (standbyOf (storedIn d w v));
       }
     where
+      stays : (w i v : ℕ) → writePositionOf w ≡ At i → bitAnd (bitAnd v (keptOf w)) (keptAt i) ≡ bitAnd v (keptOf w)
+      stays w i v p = rw (← (write-kept w i p)) (and-again v (keptOf w))
+
       both : (p s : Bool) → (not (p && s) || s) ≡ true
       both true true = refl
       both true false = refl
@@ -212,18 +214,20 @@ After o = Ranged (o .device)
 module _ {d : Device} (r : Ranged d) where
   put-ranged : (w v : ℕ) → After (putOf d w v)
   unfolding putOf
-  put-ranged w v = cond-ind After (writableOf w) (λ _. at (writePositionOf w) refl) (λ _. r)
-    where
-      at : (p : Position) → writePositionOf w ≡ p → Ranged (onPosition p (λ i. storedOf d w i v) (firedOf d))
-      at (At i) e = stored-ranged r w i v e
-      at Nowhere e = fired-ranged r
+  put-ranged w v =
+      cond-ind After (writableOf w)
+      (λ may. cond-ind Ranged (eqb w oneShot) (λ _. fired-ranged r)
+      (λ other. let p = write-placed w may other in stored-ranged r w (p .place) v (p .there)))
+      (λ _. r)
 
   read-ranged : (reg : ℕ) → readableOf reg ≡ true → Ranged (afterReadOf (pointedOf d reg) reg)
   unfolding statusReadOf knownOf
   read-ranged reg e =
       let p = pointed-ranged r reg (or-left (readableOf reg) (writableOf reg) e) in
       let q = quiet-ranged p in
-      cond-ind Ranged (eqb reg 0x02) (λ _. cond-ind Ranged (not (comparatorOf (pointedOf d reg)) && has (d .status) 0x7B) (λ _. masked-ranged q) (λ _. q)) (λ _. p)
+      cond-ind Ranged (eqb reg 0x02)
+      (λ _. cond-ind Ranged (not (comparatorOf (pointedOf d reg)) && has (d .status) alerting) (λ _. masked-ranged q) (λ _. q))
+      (λ _. p)
 
   get-ranged : (reg : ℕ) → After (getOf d reg)
   unfolding getOf
@@ -241,24 +245,22 @@ module _ {d : Device} (r : Ranged d) where
   unfolding senseOf
   sense-ranged local remote broken h = cond-ind After (takesOf d) (λ _. converted-ranged d local remote broken h r) (λ _. r)
 
-  at-ranged : (address : ℕ) (asked : Asked) → After (doneOf d asked) → After (doneOf d (atOf d address asked))
-  unfolding doneOf
-  at-ranged address asked h = cond-ind (λ (a : Asked). After (doneOf d a)) (eqb address (addressOf (d .variant))) (λ _. h) (λ _. r)
+  at-ranged : (address : ℕ) (own : Outcome) → After own → After (atOf d address own)
+  at-ranged address own h = cond-ind After (eqb address (addressOf (d .variant))) (λ _. h) (λ _. r)
 
-  event-ranged : (e : Event) → After (doneOf d (askedOf d e))
-  unfolding doneOf askedOf readingOf
-  event-ranged (Write a w v) = at-ranged a (Put w v) (put-ranged w v)
-  event-ranged (Read a reg) = at-ranged a (Get reg) (get-ranged reg)
-  event-ranged (Send a reg) = at-ranged a (Point reg) (point-ranged reg)
+  event-ranged : (e : Event) → After (effectOf d e)
+  unfolding effectOf readingOf
+  event-ranged (Write a w v) = at-ranged a (putOf d w v) (put-ranged w v)
+  event-ranged (Read a reg) = at-ranged a (getOf d reg) (get-ranged reg)
+  event-ranged (Send a reg) = at-ranged a (pointOf d reg) (point-ranged reg)
   event-ranged (Receive a) =
-      cond-ind (λ (q : Asked). After (doneOf d q)) (eqb a alertResponse) (λ _. respond-ranged) (λ _. at-ranged a (Get (d .pointer)) (get-ranged (d .pointer)))
+      cond-ind After (eqb a alertResponse) (λ _. respond-ranged) (λ _. at-ranged a (getOf d (d .pointer)) (get-ranged (d .pointer)))
   event-ranged (Convert local high low) = sense-ranged local (readingOf (d .settings) high low) false (held-scale _)
   event-ranged (Open local) = sense-ranged local openReading true (lit< tt)
   event-ranged PowerOn = powered-ranged (d .variant)
 
 -- no event leaves the ranges
 pub kept : (d : Device) (e : Event) → rangedOf d ≡ true → rangedOf (effectOf d e .device) ≡ true
-unfolding effectOf
 kept d e h = of-named (effectOf d e .device) (event-ranged (named d h) e)
 
 pub powered-variant : (v : ℕ) → poweredOf v .variant ≡ v

@@ -1,6 +1,6 @@
 -- What an event leaves alone. `elsewhere` and `outside`: a record at another address, or to a register outside the profile,
--- changes nothing and is not acknowledged; `unanswered`: so is an alert response that P9 does not let it answer. `still`: only conversions and power-on move readings, live byte, fault count and
--- latches. `same-variant`: nothing changes the variant.
+-- changes nothing and is not acknowledged; `unanswered`: so is an alert response that P9 does not let it answer. `still`: only
+-- conversions and power-on move readings, live byte, fault count and latches. `same-variant`: nothing changes the variant.
 -- Assumes nothing.
 use mathlib.Core.Path.{_≡_, refl}
 use mathlib.Core.Bool.{Bool, true, false, not, cond, _&&_}
@@ -8,25 +8,22 @@ use Prim.Native.Nat.{ℕ}
 use lib.IntN.{ℤ}
 use lib.Dec.{eqb}
 use Rattle.laws.proofs.Choices.{cond-ind}
-use Rattle.registers.specs.Bits.{has}
-use Rattle.registers.specs.Page.{readableOf, writableOf, knownOf, writePositionOf, onPosition, addressOf}
-use Rattle.registers.specs.declared.Position.{Position}
-use Rattle.registers.specs.declared.Position.the-variants.{At, Nowhere}
+use Rattle.registers.specs.Bits.{has, alerting}
+use Rattle.registers.specs.Page.{readableOf, writableOf, knownOf, oneShot, addressOf}
 use Rattle.device.specs.declared.Device.{Device}
 use Rattle.device.specs.declared.Outcome.{Outcome}
 use Rattle.device.specs.declared.Event.{Event}
 use Rattle.device.specs.declared.Event.the-variants.{Write, Read, Send, Receive, Convert, Open, PowerOn}
-use Rattle.device.specs.declared.Asked.{Asked}
-use Rattle.device.specs.declared.Asked.the-variants.{Put, Get, Point}
 use Rattle.device.specs.Pins.{comparatorOf}
-use Rattle.device.specs.Bus.{silentOf, pointedOf, maskedOf, storedOf, firedOf, putOf, statusClearedOf, statusReadOf, getOf, pointOf, respondsOf, respondOf, takesOf, convertedOf, senseOf, poweredOf, alertResponse, atOf, askedOf, doneOf}
+use Rattle.device.specs.Bus.{silentOf, pointedOf, maskedOf, storedOf, firedOf, putOf, statusClearedOf, statusReadOf, getOf, pointOf}
+use Rattle.device.specs.Bus.{respondsOf, respondOf, takesOf, convertedOf, senseOf, poweredOf, alertResponse, atOf}
 use Rattle.device.specs.Profile.{OnBus, AtAnother, OutsideProfile}
 use Rattle.device.specs.Step.{effectOf}
 
 -- ---- at another address
 
 pub elsewhere : (d : Device) (e : Event) → AtAnother d e → effectOf d e ≡ silentOf d
-unfolding effectOf askedOf doneOf
+unfolding effectOf
 elsewhere d (Write a w v) h = rw h
 elsewhere d (Read a r) h = rw h
 elsewhere d (Send a r) h = rw h
@@ -49,24 +46,23 @@ point-outside : (d : Device) (r : ℕ) → knownOf r ≡ false → pointOf d r �
 unfolding pointOf
 point-outside d r h = rw h
 
--- asked of nobody, or of a device that keeps silent
-at-silent : (d : Device) (a : ℕ) (asked : Asked) → doneOf d asked ≡ silentOf d → doneOf d (atOf d a asked) ≡ silentOf d
-unfolding doneOf
-at-silent d a asked h = cond-ind (λ (q : Asked). doneOf d q ≡ silentOf d) (eqb a (addressOf (d .variant))) (λ _. h) (λ _. refl)
+-- at another address, or at its own where it keeps silent
+at-silent : (d : Device) (a : ℕ) (own : Outcome) → own ≡ silentOf d → atOf d a own ≡ silentOf d
+at-silent d a own h = cond-ind (λ (o : Outcome). o ≡ silentOf d) (eqb a (addressOf (d .variant))) (λ _. h) (λ _. refl)
 
 pub outside : (d : Device) (e : Event) → OutsideProfile d e → effectOf d e ≡ silentOf d
-unfolding effectOf askedOf doneOf
-outside d (Write a w v) h = at-silent d a (Put w v) (put-outside d w v h)
-outside d (Read a r) h = at-silent d a (Get r) (get-outside d r h)
-outside d (Send a r) h = at-silent d a (Point r) (point-outside d r h)
-outside d (Receive a) h = rw (h .1) (at-silent d a (Get (d .pointer)) (get-outside d (d .pointer) (h .0)))
+unfolding effectOf
+outside d (Write a w v) h = at-silent d a (putOf d w v) (put-outside d w v h)
+outside d (Read a r) h = at-silent d a (getOf d r) (get-outside d r h)
+outside d (Send a r) h = at-silent d a (pointOf d r) (point-outside d r h)
+outside d (Receive a) h = rw (h .1) (at-silent d a (getOf d (d .pointer)) (get-outside d (d .pointer) (h .0)))
 outside d (Convert local high low) h = absurd h
 outside d (Open local) h = absurd h
 outside d PowerOn h = absurd h
 
 -- P9: an alert response that the device may not answer
 pub unanswered : (d : Device) → respondsOf d ≡ false → effectOf d (Receive alertResponse) ≡ silentOf d
-unfolding effectOf askedOf doneOf respondOf
+unfolding effectOf respondOf
 unanswered d h = rw h
 
 -- ---- what no bus event moves
@@ -86,18 +82,19 @@ module _ (d : Device) where
 
   put-same : (w v : ℕ) → Same d (putOf d w v .device)
   unfolding putOf storedOf firedOf
-  put-same w v = cond-ind (λ (o : Outcome). Same d (o .device)) (writableOf w) (λ _. at (writePositionOf w)) (λ _. same)
-    where
-      at : (p : Position) → Same d (onPosition p (λ i. storedOf d w i v) (firedOf d))
-      at (At i) = record { sensed = refl; variant = refl }
-      at Nowhere = record { sensed = refl; variant = refl }
+  put-same w v =
+      cond-ind (λ (o : Outcome). Same d (o .device)) (writableOf w)
+      (λ _. cond-ind (Same d) (eqb w oneShot) (λ _. record { sensed = refl; variant = refl }) (λ _. record { sensed = refl; variant = refl }))
+      (λ _. same)
 
   get-same : (r : ℕ) → Same d (getOf d r .device)
   unfolding getOf statusReadOf
   get-same r =
       cond-ind (λ (o : Outcome). Same d (o .device)) (readableOf r)
       (λ _. cond-ind (Same d) (eqb r 0x02)
-      (λ _. cond-ind (Same d) (not (comparatorOf (pointedOf d r)) && has (d .status) 0x7B) (λ _. masked-same (statusClearedOf (pointedOf d r)) (record { sensed = refl; variant = refl })) (λ _. record { sensed = refl; variant = refl }))
+      (λ _. cond-ind (Same d) (not (comparatorOf (pointedOf d r)) && has (d .status) alerting)
+      (λ _. masked-same (statusClearedOf (pointedOf d r)) (record { sensed = refl; variant = refl }))
+      (λ _. record { sensed = refl; variant = refl }))
       (λ _. record { sensed = refl; variant = refl }))
       (λ _. same)
 
@@ -109,16 +106,17 @@ module _ (d : Device) where
   unfolding respondOf
   respond-same = cond-ind (λ (o : Outcome). Same d (o .device)) (respondsOf d) (λ _. masked-same d same) (λ _. same)
 
-  at-same : (a : ℕ) (asked : Asked) → Same d (doneOf d asked .device) → Same d (doneOf d (atOf d a asked) .device)
-  unfolding doneOf
-  at-same a asked h = cond-ind (λ (q : Asked). Same d (doneOf d q .device)) (eqb a (addressOf (d .variant))) (λ _. h) (λ _. same)
+  at-same : (a : ℕ) (own : Outcome) → Same d (own .device) → Same d (atOf d a own .device)
+  at-same a own h = cond-ind (λ (o : Outcome). Same d (o .device)) (eqb a (addressOf (d .variant))) (λ _. h) (λ _. same)
 
   bus-same : (e : Event) → OnBus e → Same d (effectOf d e .device)
-  unfolding effectOf askedOf doneOf
-  bus-same (Write a w v) h = at-same a (Put w v) (put-same w v)
-  bus-same (Read a r) h = at-same a (Get r) (get-same r)
-  bus-same (Send a r) h = at-same a (Point r) (point-same r)
-  bus-same (Receive a) h = cond-ind (λ (q : Asked). Same d (doneOf d q .device)) (eqb a alertResponse) (λ _. respond-same) (λ _. at-same a (Get (d .pointer)) (get-same (d .pointer)))
+  unfolding effectOf
+  bus-same (Write a w v) h = at-same a (putOf d w v) (put-same w v)
+  bus-same (Read a r) h = at-same a (getOf d r) (get-same r)
+  bus-same (Send a r) h = at-same a (pointOf d r) (point-same r)
+  bus-same (Receive a) h =
+      cond-ind (λ (o : Outcome). Same d (o .device)) (eqb a alertResponse) (λ _. respond-same)
+      (λ _. at-same a (getOf d (d .pointer)) (get-same (d .pointer)))
   bus-same (Convert local high low) h = absurd h
   bus-same (Open local) h = absurd h
   bus-same PowerOn h = absurd h
@@ -129,8 +127,9 @@ still d e h = bus-same d e h .sensed
 
 -- ---- what a conversion that is not taken moves: nothing
 
-pub untaken : (d : Device) (local : ℕ) → takesOf d ≡ false → ((high low : ℕ) → effectOf d (Convert local high low) ≡ silentOf d) × (effectOf d (Open local) ≡ silentOf d)
-unfolding effectOf askedOf doneOf senseOf
+pub untaken : (d : Device) (local : ℕ) → takesOf d ≡ false
+    → ((high low : ℕ) → effectOf d (Convert local high low) ≡ silentOf d) × (effectOf d (Open local) ≡ silentOf d)
+unfolding effectOf senseOf
 untaken d local h = (λ high low. rw h, rw h)
 
 -- ---- the variant
@@ -144,7 +143,7 @@ sense-variant d local remote broken = split (takesOf d)
     split false = refl
 
 pub same-variant : (d : Device) (e : Event) → effectOf d e .device .variant ≡ d .variant
-unfolding effectOf askedOf doneOf poweredOf
+unfolding effectOf poweredOf
 same-variant d (Write a w v) = bus-same d (Write a w v) tt .variant
 same-variant d (Read a r) = bus-same d (Read a r) tt .variant
 same-variant d (Send a r) = bus-same d (Send a r) tt .variant

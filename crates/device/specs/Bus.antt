@@ -1,5 +1,5 @@
--- The bus, conversions and power-on, by rulings P2, P5, P6 and P9 to P12: what each event asks of a device, and what the device
--- then does. Settings are named by the numbers at which their registers are read.
+-- The bus, conversions and power-on, by rulings P5, P6 and P9 to P12: what a device does at a write, a read, a send, an alert response,
+-- a conversion and power-on. Settings are named by the numbers at which their registers are read.
 -- Assumes nothing.
 use Prim.Native.Nat.{ℕ, _+_, _*_}
 use mathlib.Core.Bool.{Bool, true, false, not, _||_, _&&_, cond}
@@ -7,18 +7,13 @@ use mathlib.Core.List.{List, [], _∷_}
 use lib.IntN.{ℤ, pos}
 use lib.Dec.{eqb}
 use lib.Bits.{bitAnd, bitOr}
-use lib.ListN.{getD, set}
-use Rattle.temperature.specs.Temperature.{eighthsOf, highByteOf, lowByteOf, openReading}
+use Rattle.temperature.specs.Temperature.{eighthsOf, highByteOf, lowByteOf}
 use Rattle.registers.specs.Bits.{has, alerting, alertMask, standby}
-use Rattle.registers.specs.Page.{readableOf, writableOf, knownOf, oneShot, writePositionOf, readPositionOf, onPosition, settingOf, changedOf, keptOf, powerOnOf, readOnlyOf, addressOf}
+use Rattle.registers.specs.Page.{readableOf, writableOf, knownOf, oneShot, settableOf, settingOf, changedOf, readAtOf, keptOf, powerOnOf, readOnlyOf, addressOf}
 use Rattle.conversion.specs.declared.Sensed.{Sensed}
-use Rattle.conversion.specs.Conversion.{readingOf, sensedOf}
+use Rattle.conversion.specs.Conversion.{sensedOf}
 use Rattle.device.specs.declared.Device.{Device}
 use Rattle.device.specs.declared.Outcome.{Outcome}
-use Rattle.device.specs.declared.Event.{Event}
-use Rattle.device.specs.declared.Event.the-variants.{Write, Read, Send, Receive, Convert, Open, PowerOn}
-use Rattle.device.specs.declared.Asked.{Asked}
-use Rattle.device.specs.declared.Asked.the-variants.{Put, Get, Point, Respond, Sense, Restart, Nothing}
 use Rattle.device.specs.Pins.{configurationOf, comparatorOf, alertOf}
 
 -- ---- what an outcome is
@@ -51,21 +46,21 @@ maskedOf d = setUpOf d (d .pointer) (d .pending) (changedOf (d .settings) 0x03 (
 
 -- ---- write byte
 
-abbrev pub storedIn : Device → ℕ → ℕ → ℕ → List ℕ
-storedIn d w i v = set (d .settings) i (bitAnd v (keptOf w))
+-- the register that is written at w keeps the value's kept bits
+abbrev pub storedIn : Device → ℕ → ℕ → List ℕ
+storedIn d w v = changedOf (d .settings) (readAtOf w) (bitAnd v (keptOf w))
 
--- the settable register w, at position i, keeps the value's kept bits; P10: w becomes the pointer; P11: leaving standby clears a
--- pending one-shot
-unfoldable pub storedOf : Device → ℕ → ℕ → ℕ → Device
-storedOf d w i v = setUpOf d w (d .pending && standbyOf (storedIn d w i v)) (storedIn d w i v)
+-- P10: w becomes the pointer; P11: leaving standby clears a pending one-shot
+unfoldable pub storedOf : Device → ℕ → ℕ → Device
+storedOf d w v = setUpOf d w (d .pending && standbyOf (storedIn d w v)) (storedIn d w v)
 
 -- P11: a write to 0F, of any value, in standby makes a conversion pending, and out of standby does nothing but set the pointer
 unfoldable pub firedOf : Device → Device
 firedOf d = setUpOf d oneShot (d .pending || standbyOf (d .settings)) (d .settings)
 
--- a writable register that holds no byte is the one-shot
+-- 0F is the one-shot; every other writable register is settable
 abbrev pub writtenOf : Device → ℕ → ℕ → Device
-writtenOf d w v = onPosition (writePositionOf w) (λ i. storedOf d w i v) (firedOf d)
+writtenOf d w v = cond (eqb w oneShot) (firedOf d) (storedOf d w v)
 
 -- P10: a register outside W is not acknowledged
 unfoldable pub putOf : Device → ℕ → ℕ → Outcome
@@ -91,8 +86,9 @@ readOnlyValueOf d r =
     (cond (eqb r 0x10) (lowByteOf (d .sensed .remote))
     (readOnlyOf (d .variant) r))))
 
+-- the byte of a register: its setting if it is settable
 unfoldable pub valueOf : Device → ℕ → ℕ
-valueOf d r = onPosition (readPositionOf r) (λ i. getD (d .settings) i 0) (readOnlyValueOf d r)
+valueOf d r = cond (settableOf r) (settingOf (d .settings) r) (readOnlyValueOf d r)
 
 abbrev pub afterReadOf : Device → ℕ → Device
 afterReadOf d r = cond (eqb r 0x02) (statusReadOf d) d
@@ -172,28 +168,8 @@ poweredOf variant =
       settings = powerOnOf variant;
     }
 
--- ---- what an event asks
+-- ---- at its own address
 
--- P10: what is asked at the device's own address; at another, nothing
-abbrev pub atOf : Device → ℕ → Asked → Asked
-atOf d address asked = cond (eqb address (addressOf (d .variant))) asked Nothing
-
--- P9: a receive from 0C is the alert response; P10: any other uses the pointer. P2: the reading, or 127 degrees if the diode is open
-unfoldable pub askedOf : Device → Event → Asked
-askedOf d (Write address w v) = atOf d address (Put w v)
-askedOf d (Read address r) = atOf d address (Get r)
-askedOf d (Send address r) = atOf d address (Point r)
-askedOf d (Receive address) = cond (eqb address alertResponse) Respond (atOf d address (Get (d .pointer)))
-askedOf d (Convert local high low) = Sense local (readingOf (d .settings) high low) false
-askedOf d (Open local) = Sense local openReading true
-askedOf d PowerOn = Restart
-
--- what the device does
-unfoldable pub doneOf : Device → Asked → Outcome
-doneOf d (Put w v) = putOf d w v
-doneOf d (Get r) = getOf d r
-doneOf d (Point r) = pointOf d r
-doneOf d Respond = respondOf d
-doneOf d (Sense local remote diodeOpen) = senseOf d local remote diodeOpen
-doneOf d Restart = silentOf (poweredOf (d .variant))
-doneOf d Nothing = silentOf d
+-- P10: what a bus event does at the device's own address; at another nothing is acknowledged or changed
+abbrev pub atOf : Device → ℕ → Outcome → Outcome
+atOf d address own = cond (eqb address (addressOf (d .variant))) own (silentOf d)

@@ -4,15 +4,10 @@
 use mathlib.Core.Path.{_≡_, refl}
 use Prim.Native.Nat.{ℕ}
 use mathlib.Core.List.{List, [], _∷_, map}
-use Rattle.temperature.specs.Temperature.{degreesOf, eighthsOf, sumOf, heldOf, clearedOf}
-use Rattle.registers.specs.Page.{readableOf, writableOf, knownOf, writePositionOf, readPositionOf, settingOf, changedOf, keptOf, powerOnOf, readOnlyOf, addressOf}
-use Rattle.conversion.specs.Conversion.{readingOf, localLimitsOf, remoteLimitsOf, outOf, anyOf, countOf, queuedOf, shownOf, liveOf, latchOf, sensedOf}
 use Rattle.device.specs.declared.Event.{Event}
 use Rattle.device.specs.declared.Event.the-variants.{Write, Read, Send, Receive, Convert, Open, PowerOn}
-use Rattle.device.specs.Pins.{comparatorOf, watchedOf, alertOf, tcritOf, pinsOf, firstOf}
-use Rattle.device.specs.Bus.{maskedOf, storedOf, firedOf, putOf, statusReadOf, readOnlyValueOf, valueOf, getOf, pointOf, respondsOf, respondOf, takesOf, convertedOf, senseOf, poweredOf, askedOf, doneOf}
-use Rattle.device.specs.Ranges.{variantOf, masksOf, rangedOf, operandsOf}
-use Rattle.device.specs.Step.{effectOf, answerOf, stepOf}
+use Rattle.device.specs.Bus.{poweredOf}
+use Rattle.device.specs.Opened.{deviceOpened}
 use Rattle.device.specs.Run.{Reply, ok, repliesOf}
 
 pub record Row : Type 0 where
@@ -145,5 +140,5 @@ rows =
     []
 
 pub worked : map (λ (r : Row). repliesOf (poweredOf (r .variant)) (r .events)) rows ≡ map (λ (r : Row). r .replies) rows
-unfolding stepOf variantOf rangedOf masksOf operandsOf effectOf answerOf askedOf doneOf putOf storedOf firedOf getOf statusReadOf readOnlyValueOf valueOf maskedOf pointOf respondsOf respondOf takesOf convertedOf senseOf poweredOf comparatorOf watchedOf alertOf tcritOf pinsOf firstOf readingOf localLimitsOf remoteLimitsOf outOf anyOf countOf queuedOf shownOf liveOf latchOf sensedOf readableOf writableOf knownOf writePositionOf readPositionOf settingOf changedOf keptOf powerOnOf readOnlyOf addressOf degreesOf eighthsOf sumOf heldOf clearedOf
+unfolding deviceOpened
 worked = refl

@@ -2,10 +2,31 @@
 -- Assumes nothing.
 use Rattle.conversion.specs.Opened.{conversionOpened}
 use Rattle.device.specs.Pins.{comparatorOf, watchedOf, alertOf, tcritOf, pinsOf, firstOf}
-use Rattle.device.specs.Bus.{maskedOf, storedOf, firedOf, putOf, statusReadOf, readOnlyValueOf, valueOf, getOf, pointOf, respondsOf, respondOf, takesOf, convertedOf, senseOf, poweredOf, askedOf, doneOf}
+use Rattle.device.specs.Bus.{maskedOf, storedOf, firedOf, putOf, statusReadOf, readOnlyValueOf, valueOf, getOf, pointOf, respondsOf, respondOf}
+use Rattle.device.specs.Bus.{takesOf, convertedOf, senseOf, poweredOf}
 use Rattle.device.specs.Ranges.{variantOf, masksOf, rangedOf, operandsOf}
 use Rattle.device.specs.Step.{effectOf, answerOf, stepOf}
 
+unfoldable pinsOpened : Unit {0}
+unfolding comparatorOf watchedOf alertOf tcritOf pinsOf firstOf
+pinsOpened = tt
+
+unfoldable bus1Opened : Unit {0}
+unfolding maskedOf storedOf firedOf putOf statusReadOf readOnlyValueOf valueOf getOf pointOf respondsOf respondOf
+bus1Opened = tt
+
+unfoldable bus2Opened : Unit {0}
+unfolding takesOf convertedOf senseOf poweredOf
+bus2Opened = tt
+
+unfoldable rangesOpened : Unit {0}
+unfolding variantOf masksOf rangedOf operandsOf
+rangesOpened = tt
+
+unfoldable stepOpened : Unit {0}
+unfolding effectOf answerOf stepOf
+stepOpened = tt
+
 unfoldable pub deviceOpened : Unit {0}
-unfolding conversionOpened comparatorOf watchedOf alertOf tcritOf pinsOf firstOf maskedOf storedOf firedOf putOf statusReadOf readOnlyValueOf valueOf getOf pointOf respondsOf respondOf takesOf convertedOf senseOf poweredOf askedOf doneOf variantOf masksOf rangedOf operandsOf effectOf answerOf stepOf
+unfolding conversionOpened pinsOpened bus1Opened bus2Opened rangesOpened stepOpened
 deviceOpened = tt

@@ -3,13 +3,9 @@
 use mathlib.Core.Path.{_≡_, refl}
 use mathlib.Core.Bool.{true}
 use mathlib.Core.List.{[], _∷_}
-use Rattle.temperature.specs.Temperature.{degreesOf, eighthsOf, sumOf, heldOf, clearedOf}
-use Rattle.registers.specs.Page.{readableOf, writableOf, knownOf, writePositionOf, readPositionOf, settingOf, changedOf, keptOf, powerOnOf, readOnlyOf, addressOf}
-use Rattle.conversion.specs.Conversion.{readingOf, localLimitsOf, remoteLimitsOf, outOf, anyOf, countOf, queuedOf, shownOf, liveOf, latchOf, sensedOf}
+use Rattle.registers.specs.Page.{powerOnOf}
 use Rattle.device.specs.declared.Event.the-variants.{Write, Read, Send, Receive, Convert, PowerOn}
-use Rattle.device.specs.Pins.{comparatorOf, watchedOf, alertOf, tcritOf, pinsOf, firstOf}
-use Rattle.device.specs.Bus.{setUpOf, maskedOf, storedOf, firedOf, putOf, statusReadOf, readOnlyValueOf, valueOf, getOf, pointOf, respondsOf, respondOf, takesOf, convertedOf, senseOf, poweredOf, askedOf, doneOf}
-use Rattle.device.specs.Ranges.{variantOf, masksOf, rangedOf, operandsOf}
+use Rattle.device.specs.Bus.{setUpOf, poweredOf}
 use Rattle.device.specs.Opened.{deviceOpened}
 use Rattle.device.specs.Step.{refusedOf, stepOf}
 use Rattle.device.specs.declared.Device.{Device}

@@ -1,18 +1,31 @@
 -- One event: `effectOf` is what it does to any device, `stepOf` is ranges, then operands, then the effect.
 -- Assumes nothing.
 use Prim.Native.Nat.{ℕ}
-use mathlib.Core.Bool.{_&&_, cond}
+use mathlib.Core.Bool.{true, false, _&&_, cond}
+use lib.Dec.{eqb}
+use Rattle.temperature.specs.Temperature.{openReading}
+use Rattle.conversion.specs.Conversion.{readingOf}
 use Rattle.device.specs.declared.Device.{Device}
 use Rattle.device.specs.declared.Outcome.{Outcome}
 use Rattle.device.specs.declared.Stepped.{Stepped}
 use Rattle.device.specs.declared.Event.{Event}
+use Rattle.device.specs.declared.Event.the-variants.{Write, Read, Send, Receive, Convert, Open, PowerOn}
 use Rattle.device.specs.Pins.{pinsOf, firstOf}
-use Rattle.device.specs.Bus.{askedOf, doneOf}
+use Rattle.device.specs.Bus.{silentOf, putOf, getOf, pointOf, alertResponse, respondOf, senseOf, poweredOf, atOf}
 use Rattle.device.specs.Ranges.{variantOf, rangedOf, operandsOf}
 
 -- the device after, acknowledged, conversion taken, byte read
 unfoldable pub effectOf : Device → Event → Outcome
-effectOf d e = doneOf d (askedOf d e)
+effectOf d (Write address w v) = atOf d address (putOf d w v)
+effectOf d (Read address r) = atOf d address (getOf d r)
+effectOf d (Send address r) = atOf d address (pointOf d r)
+-- P9: a receive from 0C is the alert response; P10: any other uses the pointer
+effectOf d (Receive address) = cond (eqb address alertResponse) (respondOf d) (atOf d address (getOf d (d .pointer)))
+-- P2: the reading is the sample plus the offset, held; with an open diode it is 127 degrees, and OPEN
+effectOf d (Convert local high low) = senseOf d local (readingOf (d .settings) high low) false
+effectOf d (Open local) = senseOf d local openReading true
+-- power-on keeps the variant and nothing else
+effectOf d PowerOn = silentOf (poweredOf (d .variant))
 
 -- the first answer byte of an outcome, with the pins as they stand after the event; the second is the byte read
 unfoldable pub answerOf : Outcome → ℕ

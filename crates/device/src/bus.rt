@@ -1,7 +1,10 @@
 // P6 and P9 to P12: the bus, conversions and power-on.
 ghost use mathlib.Core.Path.{_≡_};
-ghost use Prim.Native.Nat.{_<_};
-ghost use Rattle.device.specs.Bus.{silentOf, answeredOf, pointedOf, maskedOf, storedOf, firedOf, putOf, statusReadOf, readOnlyValueOf, valueOf, getOf, pointOf, respondsOf, respondOf, takesOf, convertedOf, senseOf, poweredOf, atOf, askedOf};
+ghost use Rattle.registers.specs.Page.{writePositionOf};
+ghost use Rattle.registers.specs.declared.Position.the-variants.{At};
+ghost use Rattle.device.specs.Bus.{silentOf, answeredOf, pointedOf, maskedOf, storedOf, firedOf, putOf, statusReadOf};
+ghost use Rattle.device.specs.Bus.{readOnlyValueOf, valueOf, getOf, pointOf, respondsOf, respondOf, takesOf, convertedOf, senseOf, poweredOf};
+ghost use Rattle.device.specs.Asking.{askedAt, askedOf};
 use super::Asked;
 use super::Device;
 use super::Event;
@@ -9,10 +12,9 @@ use super::Outcome;
 use super::outputs;
 use conversion::Sensed;
 use registers::Position;
+use registers::bits;
 
 const ALERT_RESPONSE: u8 = 0x0C;
-
-const STANDBY: u8 = 0x40;
 
 pub(crate) fn silent(d: Device) -> Outcome
     ensures { λ r. ⌜ r ≡ silentOf d ⌝ }
@@ -49,18 +51,19 @@ fn masked(d: Device) -> Device
     ensures { λ r. ⌜ r ≡ maskedOf d ⌝ }
 {
     let mut n = d;
-    n.settings[registers::CONFIGURATION] = d.settings[registers::CONFIGURATION] | 0x80;
+    n.settings[registers::CONFIGURATION] = d.settings[registers::CONFIGURATION] | bits::ALERT_MASK;
     n
 }
 
+// The byte of the register that is written at `reg`, which stands at position `i`.
 fn stored(d: Device, reg: u8, i: usize, v: u8) -> Device
-    requires { ⌜ i < 14 ⌝ }
-    ensures { λ r. ⌜ r ≡ storedOf d reg i v ⌝ }
+    requires { ⌜ writePositionOf reg ≡ At i ⌝ }
+    ensures { λ r. ⌜ r ≡ storedOf d reg v ⌝ }
 {
     let mut n = d;
     n.settings[i] = v & registers::kept(reg);
     n.pointer = reg;
-    n.pending = d.pending & (n.settings[registers::CONFIGURATION] & STANDBY != 0);
+    n.pending = d.pending & (n.settings[registers::CONFIGURATION] & bits::STANDBY != 0);
     n
 }
 
@@ -69,7 +72,7 @@ fn fired(d: Device) -> Device
 {
     let mut n = d;
     n.pointer = registers::ONE_SHOT;
-    n.pending = d.pending | (d.settings[registers::CONFIGURATION] & STANDBY != 0);
+    n.pending = d.pending | (d.settings[registers::CONFIGURATION] & bits::STANDBY != 0);
     n
 }
 
@@ -92,7 +95,7 @@ fn status_read(d: Device) -> Device
 {
     let mut n = d;
     n.status = 0;
-    if !outputs::comparator(d) & (d.status & 0x7B != 0) {
+    if !outputs::comparator(d) & (d.status & bits::ALERTING != 0) {
         masked(n)
     } else {
         n
@@ -169,7 +172,7 @@ pub(crate) fn respond(d: Device) -> Outcome
 fn takes(d: Device) -> bool
     ensures { λ r. ⌜ r ≡ takesOf d ⌝ }
 {
-    !(d.settings[registers::CONFIGURATION] & STANDBY != 0) | d.pending
+    !(d.settings[registers::CONFIGURATION] & bits::STANDBY != 0) | d.pending
 }
 
 fn converted(d: Device, local: u8, remote: i16, broken: bool) -> Device
@@ -223,7 +226,7 @@ pub fn powered(variant: u8) -> Device
 }
 
 fn at(d: Device, address: u8, asked: Asked) -> Asked
-    ensures { λ r. ⌜ r ≡ atOf d address asked ⌝ }
+    ensures { λ r. ⌜ r ≡ askedAt d address asked ⌝ }
 {
     if address == registers::address(d.variant) {
         asked
@@ -249,7 +252,7 @@ pub(crate) fn asked(d: Device, e: Event) -> Asked
             let s = d.settings;
             Asked::Sense(local, conversion::reading(s, high, low), false)
         }
-        Event::Open(local) => Asked::Sense(local, 1016, true),
+        Event::Open(local) => Asked::Sense(local, temperature::OPEN_READING, true),
         Event::PowerOn => Asked::Restart,
     }
 }

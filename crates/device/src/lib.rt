@@ -1,7 +1,7 @@
 // The register machine: one device, one event, by value.
 ghost use mathlib.Core.Path.{_≡_};
 ghost use Rattle.device.specs.Step.{effectOf, answerOf, stepOf, refusedOf};
-ghost use Rattle.device.specs.Bus.{doneOf};
+ghost use Rattle.device.specs.Asking.{doneOf};
 use conversion::Sensed;
 
 pub mod bus;

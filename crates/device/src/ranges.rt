@@ -1,8 +1,13 @@
 // A state's ranges, of the device's part, and an event's operands.
 ghost use mathlib.Core.Path.{_≡_};
-ghost use Rattle.device.specs.Ranges.{variantOf, masksOf, rangedOf, operandsOf};
+ghost use lib.Dec.{eqb};
+ghost use lib.Bits.{bitAnd};
+ghost use Rattle.device.specs.Ranges.{allTrue, variantOf, masksOf, rangedOf, operandsOf};
 use super::Device;
 use super::Event;
+use registers::bits;
+
+const HIGHEST_ADDRESS: u8 = 0x7F;
 
 // 1 to 3.
 pub fn variant(v: u8) -> bool
@@ -11,16 +16,41 @@ pub fn variant(v: u8) -> bool
     (1 <= v) & (v <= 3)
 }
 
+// Every test holds.
+pub fn all(tests: &[bool]) -> bool
+    ensures { λ r. ⌜ r ≡ allTrue (now (tests .entry)) ⌝ }
+{
+    let mut i = 0;
+    while i < tests.len() {
+        if !tests[i] {
+            return false;
+        }
+        i += 1;
+    }
+    true
+}
+
+// The byte has no bit but those kept.
+fn keeps(byte: u8, kept: u8) -> bool
+    ensures { λ r. ⌜ r ≡ eqb (bitAnd byte kept) byte ⌝ }
+{
+    byte & kept == byte
+}
+
 // No register byte has a bit that its register drops; the other eight keep all.
 fn masks(s: [u8; 14]) -> bool
     ensures { λ r. ⌜ r ≡ masksOf s ⌝ }
 {
-    (s[registers::CONFIGURATION] & 0xD5 == s[registers::CONFIGURATION])
-        & ((s[registers::OFFSET_PART] & 0xE0 == s[registers::OFFSET_PART])
-            & ((s[registers::REMOTE_HIGH_PART] & 0xE0 == s[registers::REMOTE_HIGH_PART])
-                & ((s[registers::REMOTE_LOW_PART] & 0xE0 == s[registers::REMOTE_LOW_PART])
-                    & ((s[registers::HYSTERESIS] & 0x1F == s[registers::HYSTERESIS])
-                        & (s[registers::FILTER_ALERT] & 0x07 == s[registers::FILTER_ALERT])))))
+    all(
+        &[
+            keeps(s[registers::CONFIGURATION], bits::CONFIGURATION_KEPT),
+            keeps(s[registers::OFFSET_PART], bits::PART_KEPT),
+            keeps(s[registers::REMOTE_HIGH_PART], bits::PART_KEPT),
+            keeps(s[registers::REMOTE_LOW_PART], bits::PART_KEPT),
+            keeps(s[registers::HYSTERESIS], bits::HYSTERESIS_KEPT),
+            keeps(s[registers::FILTER_ALERT], bits::FILTER_ALERT_KEPT),
+        ],
+    )
 }
 
 // Every range but the variant's.
@@ -29,15 +59,18 @@ pub fn ranged(d: Device) -> bool
 {
     let s = d.sensed;
     let settings = d.settings;
-    (s.faults <= 3)
-        & ((-1024 <= s.remote)
-            & ((s.remote <= 1023)
-                & (registers::known(d.pointer)
-                    & ((d.status < 0x80)
-                        & ((s.live < 0x80)
-                            & (masks(settings)
-                                & (!d.pending
-                                    | (settings[registers::CONFIGURATION] & 0x40 != 0))))))))
+    all(
+        &[
+            s.faults <= 3,
+            temperature::LOWEST <= s.remote,
+            s.remote <= temperature::HIGHEST,
+            registers::known(d.pointer),
+            d.status < bits::BUSY,
+            s.live < bits::BUSY,
+            masks(settings),
+            !d.pending | (settings[registers::CONFIGURATION] & bits::STANDBY != 0),
+        ],
+    )
 }
 
 // Addresses at most 7Fh, a remote low byte that is a multiple of 32.
@@ -45,10 +78,10 @@ pub fn operands(e: Event) -> bool
     ensures { λ r. ⌜ r ≡ operandsOf e ⌝ }
 {
     match e {
-        Event::Write(address, _, _) => address <= 0x7F,
-        Event::Read(address, _) => address <= 0x7F,
-        Event::Send(address, _) => address <= 0x7F,
-        Event::Receive(address) => address <= 0x7F,
+        Event::Write(address, _, _) => address <= HIGHEST_ADDRESS,
+        Event::Read(address, _) => address <= HIGHEST_ADDRESS,
+        Event::Send(address, _) => address <= HIGHEST_ADDRESS,
+        Event::Receive(address) => address <= HIGHEST_ADDRESS,
         Event::Convert(_, _, low) => low % 32 == 0,
         Event::Open(_) => true,
         Event::PowerOn => true,

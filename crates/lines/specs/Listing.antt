@@ -3,16 +3,8 @@
 use Prim.Native.Nat.{ℕ}
 use mathlib.Core.Path.{_≡_, refl}
 use mathlib.Core.List.{List, [], _∷_}
-use Rattle.temperature.specs.Temperature.{degreesOf, eighthsOf, sumOf, heldOf, clearedOf}
-use Rattle.registers.specs.Page.{readableOf, writableOf, knownOf, writePositionOf, readPositionOf, settingOf, changedOf, keptOf, powerOnOf, readOnlyOf, addressOf}
-use Rattle.conversion.specs.Conversion.{readingOf, localLimitsOf, remoteLimitsOf, outOf, anyOf, countOf, queuedOf, shownOf, liveOf, latchOf, sensedOf}
-use Rattle.device.specs.Pins.{comparatorOf, watchedOf, alertOf, tcritOf, pinsOf, firstOf}
-use Rattle.device.specs.Bus.{maskedOf, storedOf, firedOf, putOf, statusReadOf, readOnlyValueOf, valueOf, getOf, pointOf, respondsOf, respondOf, takesOf, convertedOf, senseOf, poweredOf, askedOf, doneOf}
-use Rattle.device.specs.Ranges.{variantOf, masksOf, rangedOf, operandsOf}
-use Rattle.device.specs.Step.{effectOf, answerOf, stepOf}
-use Rattle.record.specs.Record.{decodeOf, codeOf}
-use Rattle.capture.specs.Whole.{wholeOf, variantsOf, recordCountOf, recordsOf}
 use Rattle.lines.specs.Lines.{digitOf, hexOf, zerosOf, captureListingOf}
+use Rattle.capture.specs.Opened.{captureOpened}
 
 abbrev pub bytes : List ℕ
 bytes =
@@ -43,5 +35,5 @@ printed =
     []
 
 pub listing : captureListingOf bytes ≡ printed
-unfolding stepOf variantOf rangedOf masksOf operandsOf effectOf answerOf askedOf doneOf putOf storedOf firedOf getOf statusReadOf readOnlyValueOf valueOf maskedOf pointOf respondsOf respondOf takesOf convertedOf senseOf poweredOf comparatorOf watchedOf alertOf tcritOf pinsOf firstOf readingOf localLimitsOf remoteLimitsOf outOf anyOf countOf queuedOf shownOf liveOf latchOf sensedOf readableOf writableOf knownOf writePositionOf readPositionOf settingOf changedOf keptOf powerOnOf readOnlyOf addressOf degreesOf eighthsOf sumOf heldOf clearedOf decodeOf codeOf wholeOf variantsOf recordCountOf recordsOf digitOf hexOf zerosOf
+unfolding captureOpened digitOf hexOf zerosOf
 listing = refl

@@ -8,7 +8,8 @@ use lib.Dec.{eqb, ltb, leb}
 use lib.Bits.{bitAnd}
 use Rattle.laws.proofs.Tables.{agree}
 use Rattle.registers.specs.declared.Position.the-variants.{At, Nowhere}
-use Rattle.registers.specs.Page.{Default, everyVariant, each, column, page, readOnlyIn, readableOf, writableOf, knownOf, writePositionOf, readPositionOf, keptOf, readOnlyOf}
+use Rattle.registers.specs.Page.{Default, everyVariant, each, column, page, readOnlyIn, readableOf, writableOf, knownOf, writePositionOf}
+use Rattle.registers.specs.Page.{readPositionOf, keptOf, readOnlyOf}
 
 -- ---- the right to read and to write
 

@@ -12,7 +12,8 @@ use Rattle.laws.proofs.Choices.{by-test, clash, or-right}
 use Rattle.laws.proofs.Tables.{agree}
 use Rattle.registers.specs.declared.Position.{Position}
 use Rattle.registers.specs.declared.Position.the-variants.{At, Nowhere}
-use Rattle.registers.specs.Page.{W, Settable, settable, among, find, onPosition, settingOf, changedOf, readPositionOf, writePositionOf, settableOf, readAtOf, oneShot, keptOf, knownOf, readableOf, writableOf, addressOf}
+use Rattle.registers.specs.Page.{W, Settable, settable, among, find, onPosition, settingOf, changedOf, readPositionOf, writePositionOf}
+use Rattle.registers.specs.Page.{settableOf, readAtOf, oneShot, keptOf, knownOf, readableOf, writableOf, addressOf}
 
 module _ (s : List ℕ) where
   pub configuration : settingOf s 0x03 ≡ getD s 0 0

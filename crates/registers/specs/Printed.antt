@@ -5,7 +5,8 @@ use mathlib.Core.Bool.{true, false}
 use mathlib.Core.List.{[], _∷_, map}
 use Prim.Native.Nat.{ℕ}
 use Rattle.registers.specs.declared.Position.the-variants.{At, Nowhere}
-use Rattle.registers.specs.Page.{R, W, settable, Settable, readableOf, writableOf, knownOf, writePositionOf, readPositionOf, keptOf, readAtOf, settableOf, powerOnOf, readOnlyOf, addressOf}
+use Rattle.registers.specs.Page.{R, W, settable, Settable, readableOf, writableOf, knownOf, writePositionOf, readPositionOf, keptOf, readAtOf}
+use Rattle.registers.specs.Page.{settableOf, powerOnOf, readOnlyOf, addressOf}
 
 pub R-printed : R ≡ 0x00 ∷ 0x01 ∷ 0x02 ∷ 0x03 ∷ 0x04 ∷ 0x05 ∷ 0x06 ∷ 0x07 ∷ 0x08 ∷ 0x10 ∷ 0x11 ∷ 0x12 ∷ 0x13 ∷ 0x14 ∷ 0x19 ∷ 0x20 ∷ 0x21 ∷ 0xBF ∷ 0xFE ∷ 0xFF ∷ []
 R-printed = refl

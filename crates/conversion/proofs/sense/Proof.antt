@@ -87,9 +87,22 @@ returns c =
     let here = same (a1 .eighths .result) (a1 .eighths .ok) in
     let remote = toZ-ofZ (a1 .before .fits .remote) in
     rw (
-      c .latch2 .ensures, a13 .latch .ensures, a12 .live .ensures, rclear, lclear, a9 .shown .ensures, queued, a7 .count .ensures,
-      a6 .any .ensures, a5 .compare2 .ensures, a4 .remote-limits .ensures, a3 .compare .ensures, a2 .local-limits .ensures, here,
-      a1 .eighths .ensures, remote
+      c .latch2 .ensures,
+      a13 .latch .ensures,
+      a12 .live .ensures,
+      rclear,
+      lclear,
+      a9 .shown .ensures,
+      queued,
+      a7 .count .ensures,
+      a6 .any .ensures,
+      a5 .compare2 .ensures,
+      a4 .remote-limits .ensures,
+      a3 .compare .ensures,
+      a2 .local-limits .ensures,
+      here,
+      a1 .eighths .ensures,
+      remote,
     )
 
 pub sense-spec : {M : Type 1} → statement M

@@ -2,7 +2,7 @@
 use borrow.Author.Needs.{needs}
 use Rattle.temperature.proofs.Laws.{same}
 use borrow.Author.Tests.{eq-eqb, ne-eqb}
-use Rattle.device.specs.Bus.{askedOf}
+use Rattle.device.specs.Asking.{askedOf}
 use Rattle.device.proofs.bus.asked.Statement.{statement}
 use Rattle.device.proofs.bus.asked.Tie as tie
 
