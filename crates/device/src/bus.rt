@@ -38,11 +38,11 @@ fn answered(d: Device, byte: u8) -> Outcome
     }
 }
 
-fn pointed(d: Device, reg: u8) -> Device
-    ensures { λ r. ⌜ r ≡ pointedOf d reg ⌝ }
+fn pointed(d: Device, to: u8) -> Device
+    ensures { λ r. ⌜ r ≡ pointedOf d to ⌝ }
 {
     let mut n = d;
-    n.pointer = reg;
+    n.pointer = to;
     n
 }
 
