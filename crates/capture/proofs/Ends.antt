@@ -130,17 +130,3 @@ all-end lent l s xs (ys ∷ ps) k h =
     let ranges : rangesOf (r .outcome .reader) ≡ true = rw (part-run (r .fed) b h) (run-ranges s xs b h) in
     let q = all-end (λ j. lent (suc j)) (λ j. l (suc j)) (r .outcome .reader) ys ps (bytes-right xs (joined (ys ∷ ps)) k) ranges in
     record { calls = r .calls ∷ q .calls; outcome = _; fed = more (r .fed) (q .fed) }
-
--- every call's code is one of the table
-pub feed-code : (s : Reader) (xs : List ℕ) (room : ℕ) → Bytes xs → rangesOf s ≡ true → feedOf s xs room .code ≤ 7
-unfolding feedOf
-feed-code s [] room k h = omega (arith, leb-true (s .held) 5 (ranges s h .held))
-feed-code s (b ∷ xs) room k h =
-    let t = turn-ranges s b (k .0) h in
-    cases _ s b room
-    (λ n. rw (feed-stop s b xs room n) (omega (arith, leb-true (turnOf s b .reader .held) 5 (ranges (turnOf s b .reader) t .held))))
-    (λ z l. rw (feed-on s b xs room z l) (feed-code (turnOf s b .reader) xs (room - length (pairOf (turnOf s b))) (k .1) t))
-    (λ z l. rw (feed-full s b xs room z l) (omega arith))
-
-pub call-code : (s : Reader) (xs : List ℕ) (room : ℕ) → Bytes xs → callOf s xs room .code ≤ 8
-call-code s xs room k = cond-ind (λ (o : Out). o .code ≤ 8) (rangesOf s) (λ h. omega (arith, feed-code s xs room k h)) (λ _. omega arith)

@@ -1,6 +1,7 @@
 pub mod Sensors
 pub mod Outcomes
 pub mod InRange
+pub mod Turns
 pub mod Three
 pub mod Feeds
 pub mod Records
