@@ -68,3 +68,9 @@ pub held-most : {s : Reader} {t : Turn} → Way s t → s .held ≤ 5 → t .rea
 held-most (stays n) h = h
 held-most (refuses code z l) h = l .most
 held-most (takes z e) h = omega arith
+
+-- none is held after a byte only if none was before it
+pub none-before : {s : Reader} {t : Turn} → Way s t → t .reader .held ≡ 0 → s .held ≡ 0
+none-before (stays n) e = e
+none-before (refuses code z l) e = z
+none-before (takes z e) _ = z
