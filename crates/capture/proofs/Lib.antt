@@ -7,6 +7,7 @@ pub mod Feeds
 pub mod Records
 pub mod Leads
 pub mod Run
+pub mod Places
 pub mod Sections
 pub mod Cuts
 pub mod Ends

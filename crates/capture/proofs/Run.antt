@@ -45,7 +45,7 @@ cases P s b room f g k =
     (λ n. f (eqb-false _ _ n))
 
 -- a state that holds a lasting code stays
-held-stays : (s : Reader) (b : ℕ) → (s .held ≡ 0 → ⊥) → turnOf s b .reader ≡ s
+pub held-stays : (s : Reader) (b : ℕ) → (s .held ≡ 0 → ⊥) → turnOf s b .reader ≡ s
 unfolding turnOf
 held-stays s b n = simp (ne-eqb _ _ n)
 

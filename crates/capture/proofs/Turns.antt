@@ -2,7 +2,7 @@
 -- state then holds; or a byte is taken. Nothing is asked of the byte or the state.
 -- Assumes nothing.
 use Prim.Native.Nat.{ℕ, _≤_}
-use mathlib.Core.Path.{_≡_}
+use mathlib.Core.Path.{_≡_, refl}
 use lib.ListN.{getD}
 use lib.Dec.{ltb, eqb}
 use native.Mathlib.Omega.{arith}
@@ -74,3 +74,14 @@ pub none-before : {s : Reader} {t : Turn} → Way s t → t .reader .held ≡ 0 
 none-before (stays n) e = e
 none-before (refuses code z l) e = z
 none-before (takes z e) _ = z
+
+-- a byte that is refused: its turn is silent, and leaves the state as it was, holding a lasting code
+pub record Refusal (s : Reader) (t : Turn) : Type 0 where
+  pub code : ℕ
+  pub lasts : Lasts code
+  pub turn : t ≡ quietOf (holdOf s code)
+
+pub refused : {s : Reader} {t : Turn} → Way s t → s .held ≡ 0 → (t .reader .held ≡ 0 → ⊥) → Refusal s t
+refused (stays n) z m = absurd (n z)
+refused (refuses code z l) _ m = record { code = code; lasts = l; turn = refl }
+refused (takes z e) _ m = absurd (m e)

@@ -5,4 +5,5 @@ pub mod Whole
 pub mod Schedule
 pub mod Written
 pub mod Codes
+pub mod Places
 pub mod Examples
