@@ -1,27 +1,29 @@
 -- `all-end`: whatever buffers the calls are lent, two bytes or more after each 7, feeding the parts of a capture with exactly those buffers
 -- comes to an end. A call that follows a 7 writes a pair and consumes a byte (`retry`), so that the unread rest is shorter.
 -- Assumes nothing.
-use Prim.Native.Nat.{ℕ, zero, suc, _-_, _≤_}
+use Prim.Native.Nat.{ℕ, zero, suc, _≤_}
 use mathlib.Core.Path.{_≡_, refl, ap}
 use mathlib.Core.List.{List, [], _∷_, _++_}
 use mathlib.Core.Bool.{true}
 use native.Mathlib.Omega.{arith}
 use lib.ListN.{length, drop, length-append, length-drop}
+use lib.Seq.{drop-cons}
 use lib.Dec.{eqb}
-use borrow.Author.Tests.{leb-true, eqb-true, eqb-false}
+use borrow.Author.Tests.{eqb-true, eqb-false}
 use Rattle.capture.specs.declared.Reader.{Reader}
 use Rattle.capture.specs.declared.Fed.{Fed}
 use Rattle.capture.specs.Reader.{Turn, Out, turnOf, pairOf, feedOf, callOf, rangesOf, Meets}
+use Rattle.capture.specs.Places.{byteAt}
 use Rattle.capture.specs.Schedule.{Buffer, Part, toCalls, Roomy, PartEnds, PartsEnd, joined, Bytes}
 use Rattle.capture.specs.Schedule.Part.{last, again}
 use Rattle.capture.specs.Schedule.Parts.{one, more}
 use Rattle.capture.proofs.Cuts.{part-run, bytes-left, bytes-right, bytes-drop}
 use Rattle.laws.proofs.Choices.{cond-ind, by-test}
-use Rattle.capture.proofs.Outcomes.{feed-stop, feed-full, feed-on}
-use Rattle.capture.proofs.InRange.{ranges, turn-ranges}
-use Rattle.capture.proofs.Run.{cases, drop-one, feed-ranges, run-ranges}
+use Rattle.capture.proofs.Outcomes.{feed-on}
+use Rattle.capture.proofs.Places.{feed-stands}
+use Rattle.capture.proofs.Run.{feed-ranges, run-ranges}
 
--- what a call that gives 7 stands before: a byte that completes a valid record
+-- the unread rest of a call that gives 7 begins with a byte that completes a valid record
 pub record Waiting (s : Reader) (xs : List ℕ) : Type 0 where
   pub byte : ℕ
   pub rest : List ℕ
@@ -29,20 +31,13 @@ pub record Waiting (s : Reader) (xs : List ℕ) : Type 0 where
   pub free : turnOf s byte .reader .held ≡ 0
   pub pair : 1 ≤ length (pairOf (turnOf s byte))
 
-not-seven : (s : Reader) → rangesOf s ≡ true → s .held ≡ 7 → ⊥
-not-seven s h e = omega (arith, leb-true (s .held) 5 (ranges s h .held))
-
-pub waiting : (s : Reader) (xs : List ℕ) (room : ℕ) → Bytes xs → rangesOf s ≡ true → feedOf s xs room .code ≡ 7
+pub waiting : (s : Reader) (xs : List ℕ) (room : ℕ) → rangesOf s ≡ true → feedOf s xs room .code ≡ 7
     → Waiting (feedOf s xs room .reader) (drop (feedOf s xs room .consumed) xs)
-unfolding feedOf
-waiting s [] room k h q = absurd (not-seven s h q)
-waiting s (b ∷ xs) room k h q = cases _ s b room
-    (λ n. absurd (not-seven (turnOf s b .reader) (turn-ranges s b (k .0) h) (rw (feed-stop s b xs room n) at q)))
-    (λ z l.
-    let f = feedOf (turnOf s b .reader) xs (room - length (pairOf (turnOf s b))) in
-    rw (feed-on s b xs room z l, drop-one b xs (f .consumed))
-    (waiting (turnOf s b .reader) xs (room - length (pairOf (turnOf s b))) (k .1) (turn-ranges s b (k .0) h) (rw (feed-on s b xs room z l) at q)))
-    (λ z l. rw (feed-full s b xs room z l) (record { byte = b; rest = xs; there = refl; free = z; pair = omega arith }))
+waiting s xs room h q =
+    let n = feedOf s xs room .consumed in
+    let w = feed-stands s xs room h .waits q in
+    let two : 1 ≤ length (pairOf (turnOf (feedOf s xs room .reader) (byteAt xs n))) = rw (w .pair) (omega arith) in
+    record { byte = byteAt xs n; rest = drop (suc n) xs; there = drop-cons xs n 0 (w .place .there); free = w .taken; pair = two }
 
 pair-two : (t : Turn) → length (pairOf t) ≤ 2
 pair-two t = cond-ind (λ (l : List ℕ). length l ≤ 2) (t .pair) (λ _. omega arith) (λ _. omega arith)
@@ -102,7 +97,7 @@ go (suc fuel) lent l s xs k h w f =
     let shorter : length (drop (c .consumed) xs) ≤ fuel = simp length-drop (omega (arith, retry s xs room (l 0) w .0)) in
     one-more lent s xs h (λ i. l (suc i)) q
     (go fuel (λ i. lent (suc i)) (λ i. l (suc i)) (c .reader) (drop (c .consumed) xs) (bytes-drop (c .consumed) xs k)
-    (feed-ranges s xs room k h) (waiting s xs room k h q) shorter))
+    (feed-ranges s xs room k h) (waiting s xs room h q) shorter))
     (λ e. at-once lent s xs h (eqb-false _ _ e))
 
 -- whatever buffers are lent, the first of any length and the others of two or more, feeding a part with them, in their order, comes to its end
@@ -115,7 +110,7 @@ ends lent l s xs k h =
     let q = eqb-true _ _ e in
     one-more lent s xs h l q
     (go (length (drop (c .consumed) xs)) (λ i. lent (suc i)) l (c .reader) (drop (c .consumed) xs) (bytes-drop (c .consumed) xs k)
-    (feed-ranges s xs room k h) (waiting s xs room k h q) (omega arith)))
+    (feed-ranges s xs room k h) (waiting s xs room h q) (omega arith)))
     (λ e. at-once lent s xs h (eqb-false _ _ e))
 
 -- and so does feeding one or more parts, each with the buffers lent to it

@@ -27,13 +27,25 @@ pub record Reached (s : Reader) (xs : List ℕ) (room n : ℕ) (answers : List �
   pub there : n < length xs
   pub front : feedOf s (take n xs) room ≡ takenOf n answers t
 
+-- there the byte completes a valid record, and fewer than two bytes of room are left
+pub record Full (s : Reader) (xs : List ℕ) (room n : ℕ) (answers : List ℕ) (t : Reader) : Type 0 where
+  pub reached : Reached s xs room n answers t
+  pub taken : turnOf t (byteAt xs n) .reader .held ≡ 0
+  pub pair : turnOf t (byteAt xs n) .pair ≡ true
+  pub few : room < length answers + 2
+
 pub data Ending (s : Reader) (xs : List ℕ) (room : ℕ) : Out → Type 0 where
   at-end : (n : ℕ) (answers : List ℕ) (t : Reader) → n ≡ length xs → Ending s xs room (takenOf n answers t)
   at-refusal : (n : ℕ) (answers : List ℕ) (t : Reader) (code : ℕ) → Reached s xs room n answers t → Lasts code
       → turnOf t (byteAt xs n) ≡ quietOf (holdOf t code) → Ending s xs room (record { code = code; consumed = n; answers = answers; reader = holdOf t code })
-  at-full : (n : ℕ) (answers : List ℕ) (t : Reader) → Reached s xs room n answers t → turnOf t (byteAt xs n) .reader .held ≡ 0
-      → turnOf t (byteAt xs n) .pair ≡ true → room < length answers + 2
+  at-full : (n : ℕ) (answers : List ℕ) (t : Reader) → Full s xs room n answers t
       → Ending s xs room (record { code = 7; consumed = n; answers = answers; reader = t })
+
+pub when-full : {s : Reader} {xs : List ℕ} {room : ℕ} {o : Out} → Ending s xs room o → o .code ≡ 7
+    → Full s xs room (o .consumed) (o .answers) (o .reader)
+when-full (at-end n answers t e) q = absurd (omega arith)
+when-full (at-refusal n answers t code r m j) q = absurd (omega arith)
+when-full (at-full n answers t f) q = f
 
 -- no byte, and no code held
 nothing : (s : Reader) → s .held ≡ 0 → stopOf s ≡ takenOf 0 [] s
@@ -68,8 +80,10 @@ module _ (s : Reader) (b : ℕ) (xs : List ℕ) (room : ℕ) (z : turnOf s b .re
   then-rest : {o : Out} → Ending (turnOf s b .reader) xs (room - length pair) o → Ending s (b ∷ xs) room (joinOf 1 pair o)
   then-rest (at-end n answers t e) = at-end (1 + n) (pair ++ answers) t (omega arith)
   then-rest (at-refusal n answers t code r m j) = at-refusal (1 + n) (pair ++ answers) t code (onward r) m (rw one-add j)
-  then-rest (at-full n answers t r h p f) =
-      at-full (1 + n) (pair ++ answers) t (onward r) (rw one-add h) (rw one-add p) (simp length-append (omega arith))
+  then-rest (at-full n answers t f) =
+      let few : room < length (pair ++ answers) + 2 = simp length-append (omega (arith, f .few)) in
+      at-full (1 + n) (pair ++ answers) t
+      (record { reached = onward (f .reached); taken = rw one-add (f .taken); pair = rw one-add (f .pair); few = few })
 
 pub ending : (s : Reader) (xs : List ℕ) (room : ℕ) → s .held ≡ 0 → Ending s xs room (feedOf s xs room)
 unfolding feedOf
@@ -81,7 +95,7 @@ ending s (b ∷ xs) room z = cases _ s b room
     (λ h l. rw (feed-on s b xs room h l) (then-rest s b xs room h l (ending (turnOf s b .reader) xs (room - length (pairOf (turnOf s b))) h)))
     (λ h l.
     let p = paired (turnOf s b) room l in
-    rw (feed-full s b xs room h l) (at-full 0 [] s (at-start s b xs room z) h (p .0) (p .1)))
+    rw (feed-full s b xs room h l) (at-full 0 [] s (record { reached = at-start s b xs room z; taken = h; pair = p .0; few = p .1 })))
 
 -- a state that holds a lasting code stops at once
 pub feed-held : (s : Reader) (xs : List ℕ) (room : ℕ) → (s .held ≡ 0 → ⊥) → feedOf s xs room ≡ stopOf s
@@ -119,13 +133,13 @@ module _ (s : Reader) (xs : List ℕ) (room : ℕ) where
         refuses = λ _ _. record { before = t; place = before r p; judged = j; reader = refl };
         waits = λ q. absurd (omega arith);
       }
-  by-ending r z (at-full n answers t p h g f) =
+  by-ending r z (at-full n answers t f) =
       record {
         done = λ q. absurd (omega arith);
         out-of-ranges = λ q. absurd (omega arith);
         held = λ m. absurd (m z);
         refuses = λ _ q. clash q;
-        waits = λ _. record { place = before r p; taken = h; pair = g; few = f };
+        waits = λ _. record { place = before r (f .reached); taken = f .taken; pair = f .pair; few = f .few };
       }
 
   -- nothing moves: 8, or a lasting code already held
@@ -139,8 +153,8 @@ module _ (s : Reader) (xs : List ℕ) (room : ℕ) where
         waits = λ q. absurd (seven q);
       }
 
-  in-ranges : rangesOf s ≡ true → Stands s xs room (feedOf s xs room)
-  in-ranges r =
+  pub feed-stands : rangesOf s ≡ true → Stands s xs room (feedOf s xs room)
+  feed-stands r =
       let most = leb-true (s .held) 5 (ranges s r .held) in
       by-test (eqb (s .held) 0)
       (λ e. let z = eqb-true (s .held) 0 e in by-ending r z (ending s xs room z))
@@ -150,4 +164,4 @@ module _ (s : Reader) (xs : List ℕ) (room : ℕ) where
 
   pub stands : Stands s xs room (callOf s xs room)
   stands =
-      cond-ind (Stands s xs room) (rangesOf s) in-ranges (λ _. still (λ q. omega arith) (λ q. omega arith) (λ _ q. clash q))
+      cond-ind (Stands s xs room) (rangesOf s) feed-stands (λ _. still (λ q. omega arith) (λ q. omega arith) (λ _ q. clash q))
