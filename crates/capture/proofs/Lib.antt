@@ -13,9 +13,9 @@ pub mod Cuts
 pub mod Ends
 pub mod Rooms
 pub mod Counts
+pub mod Stepping
 pub mod Written
 pub mod Judging
 pub mod Leading
 pub mod Codes
-pub mod Stepping
 pub mod Lasting

@@ -3,7 +3,8 @@ pub mod Reader
 pub mod Loops
 pub mod Whole
 pub mod Schedule
-pub mod Written
 pub mod Codes
 pub mod Places
+pub mod Events
+pub mod Written
 pub mod Examples

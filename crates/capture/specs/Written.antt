@@ -1,16 +1,17 @@
 -- A capture made with the two writers of `record`, and what stepping its events answers.
 -- Assumes nothing.
-use Prim.Native.Nat.{ℕ}
+use Prim.Native.Nat.{ℕ, _<_}
 use mathlib.Core.Path.{_≡_}
 use mathlib.Core.Bool.{true}
 use mathlib.Core.List.{List, [], _∷_, _++_}
 use lib.ListN.{length}
 use Rattle.device.specs.declared.Event.{Event}
-use Rattle.device.specs.Ranges.{operandsOf}
+use Rattle.device.specs.Ranges.{variantOf, operandsOf}
 use Rattle.record.specs.Record.{encodeOf}
 use Rattle.record.specs.Writer.{headerOf}
 use Rattle.capture.specs.Sensor.{Sensor, sensorPowered, sensorEffect}
 use Rattle.capture.specs.Whole.{wholeOf}
+use Rattle.capture.specs.Events.{eventsOf, variantIn}
 
 -- one record after the other
 abbrev pub recordsBytes : List Event → List ℕ
@@ -37,3 +38,12 @@ pub record ReadBack (variant : ℕ) (es : List Event) : Type 0 where
   pub finishing : wholeOf (captureOf variant es) .finishing ≡ 0
   pub consumed : wholeOf (captureOf variant es) .consumed ≡ length (captureOf variant es)
   pub answers : wholeOf (captureOf variant es) .answers ≡ answersOf (sensorPowered variant) es
+
+-- a capture that is accepted is the one written for its variant and its events
+pub record WrittenBack (xs : List ℕ) : Type 0 where
+  pub variant : variantOf (variantIn xs) ≡ true
+  pub allowed : Allowed (eventsOf xs)
+  -- as many as the record count, which four bytes hold
+  pub count : length (eventsOf xs) ≡ wholeOf xs .reader .count
+  pub small : length (eventsOf xs) < 0x100000000
+  pub same : xs ≡ captureOf (variantIn xs) (eventsOf xs)
