@@ -69,7 +69,8 @@ record Reads (w : Whole) (es : List Event) (d : Sensor) : Type 0 where
   consumed : w .consumed ≡ length (recordsBytes es)
   answers : w .answers ≡ answersOf d es
 
-all-records : (n k : ℕ) (d : Sensor) (es : List Event) → k + length es ≡ n → Allowed es → Reads (recordsOf n k d (quads (recordsBytes es)) (over (recordsBytes es))) es d
+all-records : (n k : ℕ) (d : Sensor) (es : List Event) → k + length es ≡ n → Allowed es
+    → Reads (recordsOf n k d (quads (recordsBytes es)) (over (recordsBytes es))) es d
 unfolding recordsOf
 all-records n k d [] e a =
     let end : k ≡ n = omega arith in
@@ -84,6 +85,14 @@ all-records n k d (e ∷ es) s a =
       consumed = rw (r .consumed) (simp (length-append, four-long));
       answers = rw (r .answers);
     })
+
+-- their events
+events-read : (es : List Event) → Allowed es → eventsIn (take (length es) (quads (recordsBytes es))) ≡ es
+events-read [] a = refl
+events-read (e ∷ es) a =
+    let f = four-of e in
+    let valid : quadOf (f .quad) ≡ Valid e = rw (f .bytes) at (reads-back e (a .0)) in
+    rw (f .bytes, valid, events-read es (a .1))
 
 -- ---- the header
 
@@ -101,14 +110,17 @@ number-back n h =
     simp (zero-add, a, b, c, div-add-mod' n 0x100)
 
 pub read-back : (variant : ℕ) (es : List Event) → variantOf variant ≡ true → length es < 0x100000000 → Allowed es → ReadBack variant es
-unfolding wholeOf variantsOf recordCountOf headerOf
+unfolding wholeOf variantsOf recordCountOf headerOf eventsOf variantIn
 read-back variant es v l a =
     let n = number 0 (length es / 0x1000000 % 0x100 ∷ length es / 0x10000 % 0x100 ∷ length es / 0x100 % 0x100 ∷ length es % 0x100 ∷ []) in
-    let r = all-records n 0 (sensorPowered variant) es (omega (arith, number-back (length es) l)) a in
+    let same : n ≡ length es = number-back (length es) l in
+    let r = all-records n 0 (sensorPowered variant) es (omega arith) a in
     record {
       code = simp v (r .code);
       finishing = simp v (r .finishing);
       consumed = simp v (omega (arith, r .consumed));
+      variant-read = simp v;
+      events = simp v (ap (λ (m : ℕ). eventsIn (take m (quads (recordsBytes es)))) same ∙ events-read es a);
       answers = simp v (r .answers);
     }
 

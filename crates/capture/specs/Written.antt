@@ -32,11 +32,13 @@ abbrev pub Allowed : List Event → Type 0
 Allowed [] = Unit {0}
 Allowed (e ∷ es) = (operandsOf e ≡ true) × Allowed es
 
--- the written capture is read to its end, with the answers of stepping its events
+-- the written capture is read to its end, as its variant and its events, with the answers of stepping them
 pub record ReadBack (variant : ℕ) (es : List Event) : Type 0 where
   pub code : wholeOf (captureOf variant es) .code ≡ 0
   pub finishing : wholeOf (captureOf variant es) .finishing ≡ 0
   pub consumed : wholeOf (captureOf variant es) .consumed ≡ length (captureOf variant es)
+  pub variant-read : variantIn (captureOf variant es) ≡ variant
+  pub events : eventsOf (captureOf variant es) ≡ es
   pub answers : wholeOf (captureOf variant es) .answers ≡ answersOf (sensorPowered variant) es
 
 -- a capture that is accepted is the one written for its variant and its events
