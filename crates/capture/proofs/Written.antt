@@ -1,5 +1,5 @@
--- `read-back`: a capture written with the header writer and the event writer is read with code 0 and finishing code 0, and its answers
--- are those of stepping the events. `written-back`: every byte string that is accepted is such a capture, of its variant and its events.
+-- `read-back`: a capture written with the header writer and the event writer is read with code 0 and finishing code 0 as those events, and
+-- answered as their steps reply. `written-back`: every byte string that is accepted is such a capture, of its variant and its events.
 -- Assumes nothing.
 use Prim.Native.Nat.{ℕ, suc, _+_, _-_, _*_, _/_, _%_, _<_}
 use mathlib.Core.Path.{_≡_, refl, sym, ap, _∙_}
@@ -26,8 +26,8 @@ use Rattle.capture.specs.Whole.{Whole, Quad, quadOf, onRecord, thenOf, q
 use Rattle.capture.specs.Codes.{numberHeader}
 use Rattle.capture.specs.Events.{eventThen, eventsIn, eventsBehind, eventsOf, variantIn}
 use Rattle.capture.specs.Schedule.{Bytes}
-use Rattle.capture.specs.Written.{recordsBytes, captureOf, answersOf, Allowed, ReadBack, WrittenBack}
-use Rattle.capture.proofs.Stepping.{stepped, refused, counted, uncounted}
+use Rattle.capture.specs.Written.{recordsBytes, captureOf, Allowed, ReadBack, WrittenBack}
+use Rattle.capture.proofs.Stepping.{stepped, refused, counted, uncounted, step-by-step}
 
 -- ---- one record
 
@@ -63,28 +63,22 @@ module _ (n k : ℕ) (d : Sensor) (e : Event) (xs : List ℕ) where
 
 -- ---- all records
 
-record Reads (w : Whole) (es : List Event) (d : Sensor) : Type 0 where
+record Reads (w : Whole) (es : List Event) : Type 0 where
   code : w .code ≡ 0
   finishing : w .finishing ≡ 0
   consumed : w .consumed ≡ length (recordsBytes es)
-  answers : w .answers ≡ answersOf d es
 
 all-records : (n k : ℕ) (d : Sensor) (es : List Event) → k + length es ≡ n → Allowed es
-    → Reads (recordsOf n k d (quads (recordsBytes es)) (over (recordsBytes es))) es d
+    → Reads (recordsOf n k d (quads (recordsBytes es)) (over (recordsBytes es))) es
 unfolding recordsOf
 all-records n k d [] e a =
     let end : k ≡ n = omega arith in
-    record { code = refl; finishing = rw (eq-eqb k n end); consumed = refl; answers = refl }
+    record { code = refl; finishing = rw (eq-eqb k n end); consumed = refl }
 all-records n k d (e ∷ es) s a =
     let r = all-records n (k + 1) (sensorEffect d e .sensor) es (omega arith) (a .1) in
     let four-long : length (encodeOf e) ≡ 4 = rw (four-of e .bytes) in
     rw (one-record n k d e (recordsBytes es) (a .0) (omega arith))
-    (record {
-      code = r .code;
-      finishing = r .finishing;
-      consumed = rw (r .consumed) (simp (length-append, four-long));
-      answers = rw (r .answers);
-    })
+    (record { code = r .code; finishing = r .finishing; consumed = rw (r .consumed) (simp (length-append, four-long)) })
 
 -- their events
 events-read : (es : List Event) → Allowed es → eventsIn (take (length es) (quads (recordsBytes es))) ≡ es
@@ -109,20 +103,45 @@ number-back n h =
     let c : n / 0x10000 * 0x100 + n / 0x100 % 0x100 ≡ n / 0x100 = rw two (div-add-mod' (n / 0x100) 0x100) in
     simp (zero-add, a, b, c, div-add-mod' n 0x100)
 
-pub read-back : (variant : ℕ) (es : List Event) → variantOf variant ≡ true → length es < 0x100000000 → Allowed es → ReadBack variant es
-unfolding wholeOf variantsOf recordCountOf headerOf eventsOf variantIn
-read-back variant es v l a =
-    let n = number 0 (length es / 0x1000000 % 0x100 ∷ length es / 0x10000 % 0x100 ∷ length es / 0x100 % 0x100 ∷ length es % 0x100 ∷ []) in
-    let same : n ≡ length es = number-back (length es) l in
-    let r = all-records n 0 (sensorPowered variant) es (omega arith) a in
-    record {
-      code = simp v (r .code);
-      finishing = simp v (r .finishing);
-      consumed = simp v (omega (arith, r .consumed));
-      variant-read = simp v;
-      events = simp v (ap (λ (m : ℕ). eventsIn (take m (quads (recordsBytes es)))) same ∙ events-read es a);
-      answers = simp v (r .answers);
-    }
+module _ (variant : ℕ) (es : List Event) (v : variantOf variant ≡ true) (l : length es < 0x100000000) (a : Allowed es) where
+  abbrev capture : List ℕ
+  capture = captureOf variant es
+
+  variant-read : variantIn capture ≡ variant
+  unfolding variantIn headerOf
+  variant-read = simp v
+
+  events-of : eventsOf capture ≡ es
+  unfolding eventsOf headerOf
+  events-of = simp v (ap (λ (m : ℕ). eventsIn (take m (quads (recordsBytes es)))) (number-back (length es) l) ∙ events-read es a)
+
+  length-is : length capture ≡ 6 + length (recordsBytes es)
+  unfolding headerOf
+  length-is = omega arith
+
+  abbrev records : Whole
+  records = recordsOf (length es) 0 (sensorPowered variant) (quads (recordsBytes es)) (over (recordsBytes es))
+
+  records-read : Reads records es
+  records-read = all-records (length es) 0 (sensorPowered variant) es (omega arith) a
+
+  whole-is : wholeOf capture ≡ thenOf 1 [] (thenOf 1 [] (thenOf 4 [] records))
+  unfolding wholeOf variantsOf recordCountOf headerOf
+  whole-is = simp (v, number-back (length es) l)
+
+  pub read-back : ReadBack variant es
+  read-back =
+      let r = records-read in
+      let s = step-by-step capture in
+      record {
+        code = rw whole-is (r .code);
+        finishing = rw whole-is (r .finishing);
+        consumed = rw whole-is (omega (arith, r .consumed, length-is));
+        variant-read = variant-read;
+        events = events-of;
+        answers = rw (variant-read, events-of) at (s .answers);
+        device = rw (variant-read, events-of) at (s .device);
+      }
 
 -- ---- every accepted capture is written so
 
