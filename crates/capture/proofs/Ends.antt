@@ -1,5 +1,6 @@
 -- `all-end`: whatever buffers the calls are lent, two bytes or more after each 7, feeding the parts of a capture with exactly those buffers
--- comes to an end. A call that follows a 7 writes a pair and consumes a byte (`retry`), so that the unread rest is shorter.
+-- comes to an end. A call that follows a 7 writes a pair and consumes a byte (`retry`), so that the unread rest is shorter. `all-as-whole`:
+-- from a fresh state that end is the whole capture's.
 -- Assumes nothing.
 use Prim.Native.Nat.{ℕ, zero, suc, _≤_}
 use mathlib.Core.Path.{_≡_, refl, ap}
@@ -12,12 +13,12 @@ use lib.Dec.{eqb}
 use borrow.Author.Tests.{eqb-true, eqb-false}
 use Rattle.capture.specs.declared.Reader.{Reader}
 use Rattle.capture.specs.declared.Fed.{Fed}
-use Rattle.capture.specs.Reader.{Turn, Out, turnOf, pairOf, feedOf, callOf, rangesOf, Meets}
+use Rattle.capture.specs.Reader.{Turn, Out, turnOf, pairOf, feedOf, callOf, rangesOf, freshOf, Meets}
 use Rattle.capture.specs.Places.{byteAt}
-use Rattle.capture.specs.Schedule.{Buffer, Part, toCalls, Roomy, PartEnds, PartsEnd, joined, Bytes}
+use Rattle.capture.specs.Schedule.{Buffer, Part, toCalls, Roomy, PartEnds, PartsEnd, joined, Bytes, SameAsWhole}
 use Rattle.capture.specs.Schedule.Part.{last, again}
 use Rattle.capture.specs.Schedule.Parts.{one, more}
-use Rattle.capture.proofs.Cuts.{part-run, bytes-left, bytes-right, bytes-drop}
+use Rattle.capture.proofs.Cuts.{part-run, bytes-left, bytes-right, bytes-drop, fresh-ranges, cuts}
 use Rattle.laws.proofs.Choices.{cond-ind, by-test}
 use Rattle.capture.proofs.Outcomes.{feed-on}
 use Rattle.capture.proofs.Places.{feed-stands}
@@ -125,3 +126,8 @@ all-end lent l s xs (ys ∷ ps) k h =
     let ranges : rangesOf (r .outcome .reader) ≡ true = rw (part-run (r .fed) b h) (run-ranges s xs b h) in
     let q = all-end (λ j. lent (suc j)) (λ j. l (suc j)) (r .outcome .reader) ys ps (bytes-right xs (joined (ys ∷ ps)) k) ranges in
     record { calls = r .calls ∷ q .calls; outcome = _; fed = more (r .fed) (q .fed) }
+
+-- so from a fresh state, however the capture is cut and whatever is lent, there is a schedule, and its outcome is the whole's
+pub all-as-whole : (lent : ℕ → ℕ → Buffer) → ((j : ℕ) → Roomy (lent j)) → (xs : List ℕ) (ps : List (List ℕ)) → Bytes (joined (xs ∷ ps))
+    → (e : PartsEnd lent freshOf (xs ∷ ps)) × SameAsWhole (e .outcome) (joined (xs ∷ ps))
+all-as-whole lent l xs ps k = let e = all-end lent l freshOf xs ps k fresh-ranges in (e, cuts (xs ∷ ps) (e .outcome) k (e .fed))

@@ -1,4 +1,5 @@
--- How a cut capture is fed. A call is known by what `feed` promises of it, and by nothing else.
+-- How a cut capture is fed: which buffers the calls are lent, when a call follows another, and what comes of it. A call is known by what
+-- `feed` promises of it, and by nothing else.
 -- Assumes nothing.
 use Prim.Native.Nat.{ℕ, zero, suc, _≤_, _<_}
 use mathlib.Core.Bool.{true}
@@ -52,13 +53,13 @@ toParts lent (n ∷ ns) = toCalls (lent 0) n ∷ toParts (λ j. lent (suc j)) ns
 abbrev pub Roomy : (ℕ → Buffer) → Type 0
 Roomy lent = (i : ℕ) → 2 ≤ length (lent (suc i))
 
--- feeding a part with the lent buffers comes to its end after some calls
+-- feeding a part with the lent buffers, in their order, comes to its end after so many calls
 pub record PartEnds (lent : ℕ → Buffer) (s : Reader) (xs : List ℕ) : Type 0 where
   pub calls : ℕ
   pub outcome : Out
   pub fed : Part (toCalls lent calls) s xs outcome
 
--- and so does feeding parts, each after some calls
+-- and so does feeding parts, each after its number of calls
 pub record PartsEnd (lent : ℕ → ℕ → Buffer) (s : Reader) (ps : List (List ℕ)) : Type 0 where
   pub calls : List ℕ
   pub outcome : Out
