@@ -24,6 +24,7 @@ abbrev pub eventThen : Record → List Event → List Event
 eventThen (Valid e) es = e ∷ es
 eventThen (Refused why) es = []
 
+-- of records in order, up to the first refused one
 abbrev pub eventsIn : List Quad → List Event
 eventsIn [] = []
 eventsIn (q ∷ qs) = eventThen (quadOf q) (eventsIn qs)
@@ -39,7 +40,7 @@ eventsBehind (complete n xs) = eventsIn (take n (quads xs))
 unfoldable pub eventsOf : List ℕ → List Event
 eventsOf xs = eventsBehind (countHeader xs)
 
--- the variant that a capture gives its device, 0 before its byte is taken
+-- the variant that a capture gives its device: its second byte, 0 where none is taken
 unfoldable pub variantIn : List ℕ → ℕ
 variantIn [] = 0
 variantIn (n ∷ []) = 0
@@ -61,8 +62,8 @@ AllStepped (r ∷ rs) = (r .code ≡ 0) × AllStepped rs
 abbrev pub deviceIn : List ℕ → Device
 deviceIn xs = poweredOf (variantIn xs)
 
--- a capture's events, stepped from power-on: each is taken, the replies are the capture's answers, the device after them is the one that the
--- reader ends with, and their number is that of the records done
+-- a capture's events, stepped from power-on: each step gives 0, the replies are the capture's answers, the device after them is the one that
+-- the reader ends with, and their number is that of the records done
 pub record StepByStep (xs : List ℕ) : Type 0 where
   pub codes : AllStepped (repliesOf (deviceIn xs) (eventsOf xs))
   pub answers : wholeOf xs .answers ≡ repliedBytes (repliesOf (deviceIn xs) (eventsOf xs))
