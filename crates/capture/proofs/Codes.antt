@@ -1,21 +1,28 @@
 -- The table of codes, both ways. `exactly`: a call gives a code exactly if its line of the table says so, whatever the state (of three
--- places for carried bytes, as every `Reader` has), the bytes and the room. `finish-exactly`: the same of asking to finish.
+-- places for carried bytes, as every `Reader` has), the bytes and the room. `finish-exactly`: the same of asking to finish. `call-code` and
+-- `finish-code`: whatever the state, the bytes and the room, the code is one of the table's.
 -- Assumes nothing.
-use Prim.Native.Nat.{ℕ}
+use Prim.Native.Nat.{ℕ, zero, suc, _-_, _≤_}
 use mathlib.Core.Path.{_≡_, refl, _∙_}
 use mathlib.Core.Logic.{_↔_}
 use mathlib.Core.List.{List, [], _∷_, _++_}
-use mathlib.Core.Bool.{_&&_}
+use mathlib.Core.Bool.{true, _&&_}
+use native.Mathlib.Omega.{arith}
 use lib.Dec.{eqb}
 use lib.ListN.{length}
-use borrow.Author.Tests.{eqb-true, eqb-false, eq-eqb, ne-eqb}
+use borrow.Author.Tests.{leb-true, eqb-true, eqb-false, eq-eqb, ne-eqb}
 use Rattle.laws.proofs.Choices.{cond-ind, by-test, and-left, and-right}
 use Rattle.laws.proofs.Exactly.{by-lines}
+use Rattle.registers.specs.Page.{among}
 use Rattle.capture.specs.declared.Reader.{Reader}
 use Rattle.capture.specs.Sensor.{headerLength}
-use Rattle.capture.specs.Reader.{rangesOf, turnOf, feedOf, callOf, finishOf}
-use Rattle.capture.specs.Codes.{Header, headerAhead, carriedOf, Free, Gives, Finishes}
+use Rattle.capture.specs.Reader.{Out, rangesOf, turnOf, pairOf, feedOf, callOf, finishOf}
+use Rattle.capture.specs.Codes.{Header, headerAhead, carriedOf, Free, Gives, Finishes, callCodes, finishCodes}
 use Rattle.capture.specs.Codes.Header.{badCount, badVariant, unfinished, complete}
+use Rattle.capture.proofs.InRange.{ranges}
+use Rattle.capture.proofs.Turns.{way, held-most}
+use Rattle.capture.proofs.Outcomes.{feed-stop, feed-full, feed-on}
+use Rattle.capture.proofs.Run.{cases}
 use Rattle.capture.proofs.Judging.{Lines, refused, ended, by-line, has-line}
 use Rattle.capture.proofs.Leading.{Leads, leads}
 
@@ -32,11 +39,13 @@ module _ (s : Reader) (xs : List ℕ) (room : ℕ) (three : length (s .bytes) �
   leads-to f e = rw (f .ranges) (rw e at (leads s three f xs room))
 
   -- a line of the records gives its code, and is a line of the table
-  in-lines : {n code : ℕ} {l : List ℕ} → Free s → headerAhead s xs ≡ complete n l → Lines n (s .done) (carriedOf s ++ l) room code → callOf s xs room .code ≡ code
+  in-lines : {n code : ℕ} {l : List ℕ} → Free s → headerAhead s xs ≡ complete n l → Lines n (s .done) (carriedOf s ++ l) room code
+      → callOf s xs room .code ≡ code
   unfolding Leads
   in-lines {n} {code} {l} f e m = let t = leads-to f e in t .1 ∙ by-line n (s .done) (t .0) (carriedOf s ++ l) room code m
 
-  of-line : {n code : ℕ} {l : List ℕ} → Free s → headerAhead s xs ≡ complete n l → Lines n (s .done) (carriedOf s ++ l) room code → Gives s xs room code
+  of-line : {n code : ℕ} {l : List ℕ} → Free s → headerAhead s xs ≡ complete n l → Lines n (s .done) (carriedOf s ++ l) room code
+      → Gives s xs room code
   of-line f e (Lines.kind m u) = Gives.kind f e m u
   of-line f e (Lines.operand m r) = Gives.operand f e m r
   of-line f e (Lines.past-end p) = Gives.past-end f e p
@@ -87,7 +96,8 @@ module _ (s : Reader) where
   finishes _ (Finishes.before-end f n) =
       let h = eqb (s .head) headerLength in
       let d = eqb (s .done) (s .count) in
-      simp (f .ranges, f .none) (cond-ind (λ (code : ℕ). code ≡ 6) (h && d) (λ e. absurd (n (eqb-true _ _ (and-left h d e)) (eqb-true _ _ (and-right h d e)))) (λ _. refl))
+      let unmet : (h && d) ≡ true → ⊥ = λ e. n (eqb-true _ _ (and-left h d e)) (eqb-true _ _ (and-right h d e)) in
+      simp (f .ranges, f .none) (cond-ind (λ (code : ℕ). code ≡ 6) (h && d) (λ e. absurd (unmet e)) (λ _. refl))
   finishes _ (Finishes.at-end f h d) = simp (f .ranges, f .none, h, d, eq-eqb)
 
   -- the same of finishing
@@ -112,3 +122,41 @@ module _ (s : Reader) where
 
   pub finish-exactly : (code : ℕ) → (finishOf s ≡ code) ↔ Finishes s code
   finish-exactly = by-lines (Finishes s) (finishOf s) finished-as finishes
+
+-- ---- no other codes
+
+up-to-five : (code : ℕ) (more : List ℕ) → code ≤ 5 → among code (0 ∷ 1 ∷ 2 ∷ 3 ∷ 4 ∷ 5 ∷ more) ≡ true
+up-to-five zero more h = refl
+up-to-five (suc zero) more h = refl
+up-to-five (suc (suc zero)) more h = refl
+up-to-five (suc (suc (suc zero))) more h = refl
+up-to-five (suc (suc (suc (suc zero)))) more h = refl
+up-to-five (suc (suc (suc (suc (suc zero))))) more h = refl
+up-to-five (suc (suc (suc (suc (suc (suc n)))))) more h = absurd (omega arith)
+
+held-code : (s : Reader) → rangesOf s ≡ true → s .held ≤ 5
+held-code s h = leb-true (s .held) 5 (ranges s h .held)
+
+feed-code : (s : Reader) (xs : List ℕ) (room : ℕ) → s .held ≤ 5 → among (feedOf s xs room .code) callCodes ≡ true
+unfolding feedOf
+feed-code s [] room h = up-to-five (s .held) (7 ∷ 8 ∷ []) h
+feed-code s (b ∷ xs) room h =
+    let t = turnOf s b in
+    let most = held-most (way s b) h in
+    cases _ s b room
+    (λ n. rw (feed-stop s b xs room n) (up-to-five (t .reader .held) (7 ∷ 8 ∷ []) most))
+    (λ z l. rw (feed-on s b xs room z l) (feed-code (t .reader) xs (room - length (pairOf t)) most))
+    (λ z l. rw (feed-full s b xs room z l) refl)
+
+pub call-code : (s : Reader) (xs : List ℕ) (room : ℕ) → among (callOf s xs room .code) callCodes ≡ true
+call-code s xs room =
+    cond-ind (λ (o : Out). among (o .code) callCodes ≡ true) (rangesOf s) (λ h. feed-code s xs room (held-code s h)) (λ _. refl)
+
+listed : {s : Reader} {code : ℕ} → Finishes s code → among code finishCodes ≡ true
+listed (Finishes.out-of-ranges o) = refl
+listed {s} (Finishes.held h n) = up-to-five (s .held) (6 ∷ 8 ∷ []) (held-code s h)
+listed (Finishes.before-end f n) = refl
+listed (Finishes.at-end f h d) = refl
+
+pub finish-code : (s : Reader) → among (finishOf s) finishCodes ≡ true
+finish-code s = listed (finished-as s)

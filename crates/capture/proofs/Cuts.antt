@@ -1,5 +1,5 @@
--- Demand 3. `cuts`: a capture cut anywhere, its parts fed in order with any room, a retry after each 7 and only then, gives what the
--- whole-capture definition gives. `determined`: two results that meet feed's promise are equal, buffer included.
+-- Demand 3. `cuts`: a capture cut anywhere, its parts fed in order, whatever buffers the calls are lent, a retry after each 7 and only
+-- then, gives what the whole-capture definition gives. `determined`: two results that meet feed's promise are equal, buffer included.
 -- Assumes nothing.
 use Prim.Native.Nat.{ℕ, zero, suc}
 use mathlib.Core.Path.{_≡_, ap, sym, _∙_}
@@ -10,7 +10,7 @@ use lib.Seq.{take-append-seam}
 use Rattle.capture.specs.declared.Reader.{Reader}
 use Rattle.capture.specs.declared.Fed.{Fed}
 use Rattle.capture.specs.Reader.{Out, feedOf, callOf, endOf, placeOf, rangesOf, freshOf, Meets}
-use Rattle.capture.specs.Schedule.{seen, after, Part, Parts, joined, Bytes, SameAsWhole}
+use Rattle.capture.specs.Schedule.{Buffer, seen, after, Part, Parts, joined, Bytes, SameAsWhole}
 use Rattle.capture.specs.Schedule.Part.{last, again}
 use Rattle.capture.specs.Schedule.Parts.{one, more}
 use Rattle.capture.proofs.Run.{runOf, run-append, run-ranges, feed-run, feed-resume, feed-ranges}
@@ -37,19 +37,23 @@ bytes-drop (suc n) [] k = tt
 bytes-drop (suc n) (b ∷ xs) k = bytes-drop n xs (k .1)
 
 -- at a state in its ranges, what is seen is the call's outcome
-called : (s : Reader) (xs : List ℕ) {r : Fed} {entry exit : List ℕ} → rangesOf s ≡ true → Meets (callOf s xs (length entry)) r entry exit → seen r exit ≡ feedOf s xs (length entry)
+called : (s : Reader) (xs : List ℕ) {r : Fed} {entry exit : List ℕ} → rangesOf s ≡ true → Meets (callOf s xs (length entry)) r entry exit
+    → seen r exit ≡ feedOf s xs (length entry)
 called s xs h m = seen-is _ (rw h at m)
 
-pub part-run : {least : ℕ} {s : Reader} {xs : List ℕ} {o : Out} → Part least s xs o → Bytes xs → rangesOf s ≡ true → o ≡ runOf s xs
-part-run (last {s = s} {xs = xs} {entry = entry} {exit = exit} {r = r} l m n) k h =
+pub part-run : {buffers : List Buffer} {s : Reader} {xs : List ℕ} {o : Out} → Part buffers s xs o → Bytes xs → rangesOf s ≡ true → o ≡ runOf s xs
+part-run (last {s = s} {xs = xs} {entry = entry} {exit = exit} {r = r} m n) k h =
     let e = called s xs h m in
     e ∙ feed-run s xs (length entry) (λ q. n (ap (λ (x : Out). x .code) e ∙ q))
-part-run (again {s = s} {xs = xs} {entry = entry} {exit = exit} {r = r} {o = o} l m q p) k h =
+part-run (again {s = s} {xs = xs} {entry = entry} {exit = exit} {r = r} {o = o} m q l p) k h =
     let e = called s xs h m in
-    let i : o ≡ runOf (r .reader) (drop (r .consumed) xs) = part-run p (bytes-drop (r .consumed) xs k) (rw (ap (λ (x : Out). x .reader) e) (feed-ranges s xs (length entry) k h)) in
+    let rest = drop (r .consumed) xs in
+    let ranges : rangesOf (r .reader) ≡ true = rw (ap (λ (x : Out). x .reader) e) (feed-ranges s xs (length entry) k h) in
+    let i : o ≡ runOf (r .reader) rest = part-run p (bytes-drop (r .consumed) xs k) ranges in
     ap (after (seen r exit)) i ∙ ap (λ (x : Out). after x (runOf (x .reader) (drop (x .consumed) xs))) e ∙ sym (feed-resume s xs (length entry))
 
-parts-run : {s : Reader} {ps : List (List ℕ)} {o : Out} → Parts s ps o → Bytes (joined ps) → rangesOf s ≡ true → o ≡ runOf s (joined ps)
+parts-run : {buffers : List (List Buffer)} {s : Reader} {ps : List (List ℕ)} {o : Out} → Parts buffers s ps o → Bytes (joined ps)
+    → rangesOf s ≡ true → o ≡ runOf s (joined ps)
 parts-run (one {xs = xs} p) k h = rw append-nil (part-run p (bytes-left xs [] k) h)
 parts-run (more {s = s} {xs = xs} {ps = ps} {o = o} p q) k h =
     let i = part-run p (bytes-left xs (joined ps) k) h in
@@ -61,7 +65,8 @@ unfolding rangesOf placeOf
 fresh-ranges = rw zero-ranges
 
 -- the theorem
-pub cuts : (ps : List (List ℕ)) (o : Out) → Bytes (joined ps) → Parts freshOf ps o → SameAsWhole o (joined ps)
+pub cuts : {buffers : List (List Buffer)} (ps : List (List ℕ)) (o : Out) → Bytes (joined ps) → Parts buffers freshOf ps o
+    → SameAsWhole o (joined ps)
 cuts ps o k p =
     let q = parts-run p k fresh-ranges in
     let e = q ∙ whole-run (joined ps) in
@@ -76,7 +81,8 @@ cuts ps o k p =
     }
 
 -- two results that meet one outcome are equal, and so are their buffers
-pub determined : (o : Out) {r r′ : Fed} {entry exit exit′ : List ℕ} → Meets o r entry exit → Meets o r′ entry exit′ → (r ≡ r′) × (exit ≡ exit′)
+pub determined : (o : Out) {r r′ : Fed} {entry exit exit′ : List ℕ} → Meets o r entry exit → Meets o r′ entry exit′
+    → (r ≡ r′) × (exit ≡ exit′)
 determined o m n = (
   λ i. record {
     code = (m .code ∙ sym (n .code)) i;

@@ -45,7 +45,7 @@ cases P s b room f g k =
     (λ n. f (eqb-false _ _ n))
 
 -- a state that holds a lasting code stays
-held-stays : (s : Reader) (b : ℕ) → (s .held ≡ 0 → ⊥) → turnOf s b .reader ≡ s
+pub held-stays : (s : Reader) (b : ℕ) → (s .held ≡ 0 → ⊥) → turnOf s b .reader ≡ s
 unfolding turnOf
 held-stays s b n = simp (ne-eqb _ _ n)
 
@@ -61,7 +61,11 @@ pub run-append : (s : Reader) (xs ys : List ℕ) → runOf s (xs ++ ys) ≡ afte
 run-append s [] ys = rw (run-nil s) (sym (join-none (runOf s ys)))
 run-append s (b ∷ xs) ys =
     by-test (eqb (turnOf s b .reader .held) 0)
-    (λ z. let h = eqb-true _ _ z in rw (run-on s b (xs ++ ys) h, run-on s b xs h, run-append (turnOf s b .reader) xs ys) (after-join 1 (pairOf (turnOf s b)) (runOf (turnOf s b .reader) xs) (runOf (runOf (turnOf s b .reader) xs .reader) ys)))
+    (λ z.
+    let h = eqb-true _ _ z in
+    let t = turnOf s b in
+    let r = runOf (t .reader) xs in
+    rw (run-on s b (xs ++ ys) h, run-on s b xs h, run-append (t .reader) xs ys) (after-join 1 (pairOf t) r (runOf (r .reader) ys)))
     (λ z. let n = eqb-false _ _ z in rw (run-stop s b (xs ++ ys) n, run-stop s b xs n, run-held (turnOf s b .reader) ys n) refl)
 
 -- a call that does not end for want of room is the run
@@ -70,14 +74,18 @@ unfolding feedOf
 feed-run s [] room n = sym (run-nil s)
 feed-run s (b ∷ xs) room n = cases _ s b room
     (λ h. feed-stop s b xs room h ∙ sym (run-stop s b xs h))
-    (λ h l. let e = feed-on s b xs room h l in e ∙ ap (joinOf 1 (pairOf (turnOf s b))) (feed-run (turnOf s b .reader) xs (room - length (pairOf (turnOf s b))) (λ q. n (rw e q))) ∙ sym (run-on s b xs h))
+    (λ h l.
+    let t = turnOf s b in
+    let e = feed-on s b xs room h l in
+    e ∙ ap (joinOf 1 (pairOf t)) (feed-run (t .reader) xs (room - length (pairOf t)) (λ q. n (rw e q))) ∙ sym (run-on s b xs h))
     (λ h l. absurd (n (rw (feed-full s b xs room h l) refl)))
 
 pub drop-one : (b : ℕ) (xs : List ℕ) (n : ℕ) → drop (1 + n) (b ∷ xs) ≡ drop n xs
 drop-one b xs n = rw one-add refl
 
 -- and where it does, or not, the run goes on from there with what is unread
-pub feed-resume : (s : Reader) (xs : List ℕ) (room : ℕ) → runOf s xs ≡ after (feedOf s xs room) (runOf (feedOf s xs room .reader) (drop (feedOf s xs room .consumed) xs))
+pub feed-resume : (s : Reader) (xs : List ℕ) (room : ℕ)
+    → runOf s xs ≡ after (feedOf s xs room) (runOf (feedOf s xs room .reader) (drop (feedOf s xs room .consumed) xs))
 unfolding feedOf
 feed-resume s [] room = rw (run-nil s) refl
 feed-resume s (b ∷ xs) room = cases _ s b room

@@ -116,9 +116,17 @@ pub data Gives (s : Reader) (xs : List ℕ) (room : ℕ) : ℕ → Type 0 where
   in-header : Free s → headerAhead s xs ≡ unfinished → Gives s xs room 0
   in-records : {n : ℕ} {l : List ℕ} → Free s → headerAhead s xs ≡ complete n l → Done n (s .done) (carriedOf s ++ l) room → Gives s xs room 0
 
+-- the codes that a call gives: 0 to 5, 7 and 8
+abbrev pub callCodes : List ℕ
+callCodes = 0 ∷ 1 ∷ 2 ∷ 3 ∷ 4 ∷ 5 ∷ 7 ∷ 8 ∷ []
+
 -- the codes that last: 1 to 5
 abbrev pub lastingOf : ℕ → Bool
 lastingOf code = leb 1 code && leb code 5
+
+-- the codes that asking to finish gives: 0 to 6 and 8
+abbrev pub finishCodes : List ℕ
+finishCodes = 0 ∷ 1 ∷ 2 ∷ 3 ∷ 4 ∷ 5 ∷ 6 ∷ 8 ∷ []
 
 -- asked to finish, state s gives this code
 pub data Finishes (s : Reader) : ℕ → Type 0 where

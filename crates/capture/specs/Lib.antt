@@ -4,6 +4,8 @@ pub mod Loops
 pub mod Whole
 pub mod Opened
 pub mod Schedule
-pub mod Written
 pub mod Codes
+pub mod Places
+pub mod Events
+pub mod Written
 pub mod Examples
