@@ -58,8 +58,17 @@ returns-7 c = rw (c .admit7 .ensures, c .before .match .keys7)
 returns-8 : tie.Need-returns-8
 unfolding decodeOf
 returns-8 c =
-    let n = c .match .rest in
-    rw (ne-eqb _ _ (n .0 .0 .0 .0 .0 .0 .1), ne-eqb _ _ (n .0 .0 .0 .0 .0 .1), ne-eqb _ _ (n .0 .0 .0 .0 .1), ne-eqb _ _ (n .0 .0 .0 .1), ne-eqb _ _ (n .0 .0 .1), ne-eqb _ _ (n .0 .1), ne-eqb _ _ (n .1))
+    let to7 = c .match .rest in
+    let to4 = to7 .0 .0 .0 in
+    rw (
+      ne-eqb _ _ (to4 .0 .0 .0 .1),
+      ne-eqb _ _ (to4 .0 .0 .1),
+      ne-eqb _ _ (to4 .0 .1),
+      ne-eqb _ _ (to4 .1),
+      ne-eqb _ _ (to7 .0 .0 .1),
+      ne-eqb _ _ (to7 .0 .1),
+      ne-eqb _ _ (to7 .1),
+    )
 
 pub decode-spec : {M : Type 1} → statement M
 decode-spec =
