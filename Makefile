@@ -1,7 +1,7 @@
 PREFIX ?= /usr/local
 CAPTURE ?= samples/01-document.hex
 
-.PHONY: all build list lib test speed install clean
+.PHONY: all build list lib test misreadings speed install clean
 
 all: list
 
@@ -21,6 +21,10 @@ lib: build
 # The gate.
 test:
 	.ci/run
+
+# Misreadings of document 01 in the definitions, with no function in sight: does a theorem notice each?
+misreadings:
+	@python3 tests/misreadings.py
 
 # Nanoseconds a record, against the second program.
 speed:

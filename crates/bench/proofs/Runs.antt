@@ -48,11 +48,13 @@ ran xs entry fed m =
     let run = whole-run xs in
     let s = feed-short freshOf xs (length entry) (rw (ap (λ (o : Out). length (o .answers)) run) few) in
     let t = rw fresh-ranges at m in
-    let same : feedOf freshOf xs (length entry) .answers ≡ take (length entry / 2 * 2) (wholeOf xs .answers) = s .answers ∙ ap (λ (o : Out). take (length entry / 2 * 2) (o .answers)) run in
+    let pairs = length entry / 2 * 2 in
+    let same : feedOf freshOf xs (length entry) .answers ≡ take pairs (wholeOf xs .answers) = s .answers ∙ ap (λ (o : Out). take pairs (o .answers)) run in
     rw e (record { told = rw (t .written, t .code, s .code, same); buffer = rw same at (t .buffer) }))
 
 -- two results that meet the promise are equal, and so are their buffers
-pub one-run : (capture : List ℕ) {r s : ℕ} {entry exit exit′ : List ℕ} → RanWhole capture r entry exit → RanWhole capture s entry exit′ → (r ≡ s) × (exit ≡ exit′)
+pub one-run : (capture : List ℕ) {r s : ℕ} {entry exit exit′ : List ℕ}
+    → RanWhole capture r entry exit → RanWhole capture s entry exit′ → (r ≡ s) × (exit ≡ exit′)
 one-run capture p q = (p .told ∙ sym (q .told), p .buffer ∙ sym (q .buffer))
 
 -- a whole capture writes fewer than 2 ^ 33 answer bytes, so the result fits

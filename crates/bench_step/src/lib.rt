@@ -1,5 +1,7 @@
 // The bench's calls on one device where it stands, for C.
 ghost use mathlib.Core.Path.{_≡_};
+ghost use mathlib.Core.Bool.{cond, _&&_};
+ghost use Rattle.device.specs.Ranges.{variantOf, rangedOf};
 ghost use Rattle.bench_step.specs.BenchStep.{refusalOf, stepBytesOf, powerOnOf};
 use device::Device;
 use record::Record;
@@ -31,25 +33,32 @@ fn refusal(d: Device, code: u8) -> Taken
     }
 }
 
+// Bytes that are no event's: 8 for a device out of its ranges comes before their own code.
+fn refused(d: Device, code: u8) -> Taken
+    ensures { λ r. ⌜ r ≡ refusalOf d (cond (variantOf (d .variant) && rangedOf d) code 8) ⌝ }
+{
+    if device::ranges::variant(d.variant) & device::ranges::ranged(d) {
+        return refusal(d, code);
+    }
+    refusal(d, 8)
+}
+
 // One event, given as its record's four bytes, by value: 8, then 3, then 4, else 0.
 pub fn step_bytes(d: Device, kind: u8, a: u8, b: u8, c: u8) -> Taken
     ensures { λ r. ⌜ r ≡ stepBytesOf d kind a b c ⌝ }
 {
-    if !(device::ranges::variant(d.variant) & device::ranges::ranged(d)) {
-        return refusal(d, 8);
-    }
     let r = record::decode(kind, a, b, c);
     let Record::Valid(e) = r else {
-        return refusal(d, record::code(r));
+        return refused(d, record::code(r));
     };
-    let o = device::effect(d, e);
-    let device = o.device;
+    let s = device::step(d, e);
+    let device = s.device;
     Taken {
         device,
         answer: Answer {
-            code: 0,
-            first: device::answer(o),
-            second: o.byte,
+            code: s.code,
+            first: s.first,
+            second: s.second,
         },
     }
 }

@@ -78,10 +78,13 @@ module _ (kind a b c : ℕ) (e : Event) where
       cond-ind Reads (eqb kind 0x01) (λ k. admitted (Write a b c) [] (λ _. rw (eqb-true kind 0x01 k)))
       (λ _. cond-ind Reads (eqb kind 0x02) (λ k. admitted (Read a b) (c ∷ []) (λ z. rw (eqb-true kind 0x02 k, eqb-true c 0 (z .0))))
       (λ _. cond-ind Reads (eqb kind 0x03) (λ k. admitted (Send a b) (c ∷ []) (λ z. rw (eqb-true kind 0x03 k, eqb-true c 0 (z .0))))
-      (λ _. cond-ind Reads (eqb kind 0x04) (λ k. admitted (Receive a) (b ∷ c ∷ []) (λ z. rw (eqb-true kind 0x04 k, eqb-true b 0 (z .0), eqb-true c 0 (z .1 .0))))
+      (λ _. cond-ind Reads (eqb kind 0x04) (λ k.
+      admitted (Receive a) (b ∷ c ∷ []) (λ z. rw (eqb-true kind 0x04 k, eqb-true b 0 (z .0), eqb-true c 0 (z .1 .0))))
       (λ _. cond-ind Reads (eqb kind 0x05) (λ k. admitted (Convert a b c) [] (λ _. rw (eqb-true kind 0x05 k)))
-      (λ _. cond-ind Reads (eqb kind 0x06) (λ k. admitted (Open a) (b ∷ c ∷ []) (λ z. rw (eqb-true kind 0x06 k, eqb-true b 0 (z .0), eqb-true c 0 (z .1 .0))))
-      (λ _. cond-ind Reads (eqb kind 0x07) (λ k. admitted PowerOn (a ∷ b ∷ c ∷ []) (λ z. rw (eqb-true kind 0x07 k, eqb-true a 0 (z .0), eqb-true b 0 (z .1 .0), eqb-true c 0 (z .1 .1 .0))))
+      (λ _. cond-ind Reads (eqb kind 0x06) (λ k.
+      admitted (Open a) (b ∷ c ∷ []) (λ z. rw (eqb-true kind 0x06 k, eqb-true b 0 (z .0), eqb-true c 0 (z .1 .0))))
+      (λ _. cond-ind Reads (eqb kind 0x07) (λ k.
+      admitted PowerOn (a ∷ b ∷ c ∷ []) (λ z. rw (eqb-true kind 0x07 k, eqb-true a 0 (z .0), eqb-true b 0 (z .1 .0), eqb-true c 0 (z .1 .1 .0))))
       (λ _ q. let z : _≡_ {A = ℕ} 0 1 = cc in absurd (omega arith))))))))
     where
       Reads : Record → Type 0

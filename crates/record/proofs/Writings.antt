@@ -27,10 +27,12 @@ module _ {good : Bool} (n room : ℕ) (bytes entry : List ℕ) (bad : ℕ) where
   written g h e = rw (g, le-leb n room h) (record { told = refl; buffer = e })
 
 -- two results that meet one promise are equal, and so are their buffers
-one-writing : {w : Writing} {code code′ : ℕ} {entry exit exit′ : List ℕ} → Wrote w code entry exit → Wrote w code′ entry exit′ → (code ≡ code′) × (exit ≡ exit′)
+one-writing : {w : Writing} {code code′ : ℕ} {entry exit exit′ : List ℕ}
+    → Wrote w code entry exit → Wrote w code′ entry exit′ → (code ≡ code′) × (exit ≡ exit′)
 one-writing a b = (a .told ∙ sym (b .told), a .buffer ∙ sym (b .buffer))
 
-pub one-event : (e : Event) {code code′ : ℕ} {entry exit exit′ : List ℕ} → WroteEvent e code entry exit → WroteEvent e code′ entry exit′ → (code ≡ code′) × (exit ≡ exit′)
+pub one-event : (e : Event) {code code′ : ℕ} {entry exit exit′ : List ℕ}
+    → WroteEvent e code entry exit → WroteEvent e code′ entry exit′ → (code ≡ code′) × (exit ≡ exit′)
 one-event e a b = one-writing a b
 
 pub one-header : (variant count : ℕ) {code code′ : ℕ} {entry exit exit′ : List ℕ}
@@ -48,7 +50,8 @@ module _ (e : Event) (room : ℕ) {entry : List ℕ} where
   unfolding writeEventOf
   event-full = full 4 room (encodeOf e) entry 4
 
-  pub event-written : {exit : List ℕ} → operandsOf e ≡ true → 4 ≤ room → exit ≡ encodeOf e ++ drop (length (encodeOf e)) entry → Wrote (writeEventOf e room) 0 entry exit
+  pub event-written : {exit : List ℕ} → operandsOf e ≡ true → 4 ≤ room
+      → exit ≡ encodeOf e ++ drop (length (encodeOf e)) entry → Wrote (writeEventOf e room) 0 entry exit
   unfolding writeEventOf
   event-written = written 4 room (encodeOf e) entry 4
 
@@ -61,6 +64,7 @@ module _ (variant count room : ℕ) {entry : List ℕ} where
   unfolding writeHeaderOf
   header-full = full 6 room (headerOf variant count) entry 2
 
-  pub header-written : {exit : List ℕ} → variantOf variant ≡ true → 6 ≤ room → exit ≡ headerOf variant count ++ drop (length (headerOf variant count)) entry → Wrote (writeHeaderOf variant count room) 0 entry exit
+  pub header-written : {exit : List ℕ} → variantOf variant ≡ true → 6 ≤ room
+      → exit ≡ headerOf variant count ++ drop (length (headerOf variant count)) entry → Wrote (writeHeaderOf variant count room) 0 entry exit
   unfolding writeHeaderOf
   header-written = written 6 room (headerOf variant count) entry 2

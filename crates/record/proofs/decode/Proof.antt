@@ -1,10 +1,33 @@
 -- Assumes nothing.
+use Prim.Native.Nat.{ℕ}
+use mathlib.Core.Path.{_≡_, sym}
 use borrow.Author.Needs.{needs}
 use borrow.Author.Tests.{ne-eqb}
+use Rattle.record.specs.declared.Record.the-variants.{Refused}
+use Rattle.record.specs.declared.Refusal.the-variants.{Kind}
 use Rattle.record.specs.Record.{decodeOf}
 use Rattle.device.specs.Ranges.{operandsOf}
 use Rattle.record.proofs.decode.Statement.{statement}
 use Rattle.record.proofs.decode.Tie as tie
+
+abbrev Not : ℕ → ℕ → Type 0
+Not k kind = kind ≡ k → ⊥
+
+none-of-seven : (kind a b c : ℕ)
+    → ((((((Unit {0} × Not 1 kind) × Not 2 kind) × Not 3 kind) × Not 4 kind) × Not 5 kind) × Not 6 kind) × Not 7 kind
+    → decodeOf kind a b c ≡ Refused Kind
+unfolding decodeOf
+none-of-seven kind a b c n =
+    let to4 = n .0 .0 .0 in
+    rw (
+      ne-eqb kind 1 (to4 .0 .0 .0 .1),
+      ne-eqb kind 2 (to4 .0 .0 .1),
+      ne-eqb kind 3 (to4 .0 .1),
+      ne-eqb kind 4 (to4 .1),
+      ne-eqb kind 5 (n .0 .0 .1),
+      ne-eqb kind 6 (n .0 .1),
+      ne-eqb kind 7 (n .1),
+    )
 
 admit-requires : tie.Need-admit-requires
 admit-requires c κs = search needs
@@ -56,10 +79,7 @@ unfolding decodeOf operandsOf
 returns-7 c = rw (c .admit7 .ensures, c .before .match .keys7)
 
 returns-8 : tie.Need-returns-8
-unfolding decodeOf
-returns-8 c =
-    let n = c .match .rest in
-    rw (ne-eqb _ _ (n .0 .0 .0 .0 .0 .0 .1), ne-eqb _ _ (n .0 .0 .0 .0 .0 .1), ne-eqb _ _ (n .0 .0 .0 .0 .1), ne-eqb _ _ (n .0 .0 .0 .1), ne-eqb _ _ (n .0 .0 .1), ne-eqb _ _ (n .0 .1), ne-eqb _ _ (n .1))
+returns-8 c = sym (none-of-seven _ _ _ _ (c .match .rest))
 
 pub decode-spec : {M : Type 1} → statement M
 decode-spec =

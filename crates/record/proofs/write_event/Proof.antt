@@ -15,7 +15,9 @@ returns : tie.Need-returns
 returns c = event-refused _ _ (sym (c .before .operands .ensures) ∙ not-true (c .before .operands .result) (c .if1 .taken))
 
 returns-2 : tie.Need-returns-2
-returns-2 c = event-full _ _ (sym (c .before .before .operands .ensures) ∙ not-false (c .before .before .operands .result) (c .before .if1 .left)) (c .if2 .taken)
+returns-2 c =
+    let a = c .before .before in
+    event-full _ _ (sym (a .operands .ensures) ∙ not-false (a .operands .result) (c .before .if1 .left)) (c .if2 .taken)
 
 encode-requires : tie.Need-encode-requires
 encode-requires c κs = search needs
@@ -31,8 +33,12 @@ same-length c = search needs
 
 returns-3 : tie.Need-returns-3
 returns-3 c =
-    let a = c .before .before .before .before .before .before .before .before in
-    event-written _ _ (sym (a .operands .ensures) ∙ not-false (a .operands .result) (c .before .before .before .before .before .before .before .if1 .left)) (c .before .before .before .before .before .before .if2 .left) (rw (c .before .before .before .before .before .encode .ensures) at (copied (c .before .before .before .before .before .encode .result) (c .before .before .before .before .before .before .before .before .before .before .args .room .now) (c .before .before .copy .ensures .1)))
+    let made = c .before .before .before .before .before in
+    let tests = made .before in
+    let a = tests .before .before in
+    let good = sym (a .operands .ensures) ∙ not-false (a .operands .result) (tests .before .if1 .left) in
+    let same = copied (made .encode .result) (a .before .before .args .room .now) (c .before .before .copy .ensures .1) in
+    event-written _ _ good (tests .if2 .left) (rw (made .encode .ensures) at same)
 
 pub write-event-spec : {M : Type 1} → statement M
 write-event-spec =

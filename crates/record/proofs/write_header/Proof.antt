@@ -15,7 +15,9 @@ returns : tie.Need-returns
 returns c = header-refused _ _ _ (sym (c .before .variant .ensures) ∙ not-true (c .before .variant .result) (c .if1 .taken))
 
 returns-2 : tie.Need-returns-2
-returns-2 c = header-full _ _ _ (sym (c .before .before .variant .ensures) ∙ not-false (c .before .before .variant .result) (c .before .if1 .left)) (c .if2 .taken)
+returns-2 c =
+    let a = c .before .before in
+    header-full _ _ _ (sym (a .variant .ensures) ∙ not-false (a .variant .result) (c .before .if1 .left)) (c .if2 .taken)
 
 header-requires : tie.Need-header-requires
 header-requires c κs = search needs
@@ -31,8 +33,12 @@ same-length c = search needs
 
 returns-3 : tie.Need-returns-3
 returns-3 c =
-    let a = c .before .before .before .before .before .before .before .before in
-    header-written _ _ _ (sym (a .variant .ensures) ∙ not-false (a .variant .result) (c .before .before .before .before .before .before .before .if1 .left)) (c .before .before .before .before .before .before .if2 .left) (rw (c .before .before .before .before .before .header .ensures) at (copied (c .before .before .before .before .before .header .result) (c .before .before .before .before .before .before .before .before .before .before .args .room .now) (c .before .before .copy .ensures .1)))
+    let made = c .before .before .before .before .before in
+    let tests = made .before in
+    let a = tests .before .before in
+    let good = sym (a .variant .ensures) ∙ not-false (a .variant .result) (tests .before .if1 .left) in
+    let same = copied (made .header .result) (a .before .before .args .room .now) (c .before .before .copy .ensures .1) in
+    header-written _ _ _ good (tests .if2 .left) (rw (made .header .ensures) at same)
 
 pub write-header-spec : {M : Type 1} → statement M
 write-header-spec =
