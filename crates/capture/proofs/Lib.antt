@@ -1,4 +1,5 @@
 pub mod Sensors
+pub mod Turns
 pub mod Outcomes
 pub mod InRange
 pub mod Three

@@ -13,8 +13,8 @@ use Rattle.device.specs.Ranges.{variantOf, masksOf, rangedOf, operandsOf}
 use Rattle.device.specs.Step.{effectOf, answerOf}
 use Rattle.record.specs.Record.{decodeOf, codeOf}
 use Rattle.capture.specs.declared.Reader.{Reader}
-use Rattle.capture.specs.Reader.{Out, freshOf, headOf, recordOf, turnOf, placeOf, rangesOf, feedOf, callOf, finishOf}
-use Rattle.capture.specs.Whole.{Whole, wholeOf, variantsOf, recordCountOf, recordsOf}
+use Rattle.capture.specs.Reader.{Out, freshOf, withDone, withCarried, holdOf, headOf, recordOf, turnOf, placeOf, rangesOf, feedOf, callOf, finishOf}
+use Rattle.capture.specs.Whole.{Whole, heading, wholeOf, variantsOf, recordCountOf, recordsOf}
 
 -- what a delegate can check by hand of an outcome: all but the device
 pub record Summary : Type 0 where
@@ -174,7 +174,7 @@ calls = refl
 -- a state whose device is of this variant, and as after power-on
 abbrev at : ℕ → ℕ → ℕ → ℕ → List ℕ → ℕ → ℕ → Reader
 at head count done carried bytes held variant =
-    record { head = head; count = count; done = done; carried = carried; bytes = bytes; held = held; device = poweredOf variant }
+    holdOf (withCarried (withDone (heading head count (poweredOf variant)) done) carried bytes) held
 
 pub record Ended : Type 0 where
   pub reader : Reader

@@ -7,20 +7,45 @@ use lib.ListN.{length}
 use mathlib.Core.Path.{sym, _∙_}
 use mathlib.Core.List.{[], _∷_}
 use Rattle.laws.proofs.Buffers.{laid}
-use Rattle.capture.proofs.Records.{Running, goes-on, run-start, run-refused, run-left, run-again, same-room}
+use Rattle.capture.proofs.Records.{Running, Stepped, goes-on, run-start, run-refused, run-stepped}
 use Rattle.capture.proofs.running.run.Statement.{statement}
 use Rattle.capture.proofs.running.run.Tie as tie
 
 abbrev Inv-loop : tie.InvT-loop
-Inv-loop s input from answers₀ start kind₀ a₀ b₀ device₀ done₀ at₀ written₀ answers kind a b device done at written = Running s input answers₀ from start answers kind a b device done at written
+Inv-loop s input from answers₀ start kind₀ a₀ b₀ device₀ done₀ at₀ written₀ answers kind a b device done at written =
+    Running s input answers₀ from start answers kind a b device done at written
 
 abbrev μ-loop : tie.MeasureT-loop
 μ-loop s input from answers₀ start kind₀ a₀ b₀ device₀ done₀ at₀ written₀ answers kind a b device done at written = length input - at
 
+-- a record is stepped and its pair stored
+stored : (p : tie.After-put-pair Inv-loop μ-loop)
+    → let l = p .before .before .before .before .before .before .before .before .loop in
+    let a = p .before .before .before .before .before .before .before .before .before .before .before .before .before .args in
+    Stepped (a .s) (a .input .now) (a .answers .now) (a .from) (a .start) (l .answers)
+    (putMid (l .written) (length (l .answers) - l .written) (l .answers) (p .put-pair .last .0))
+    (p .before .before .effect .result .sensor) (l .done) (l .at) (l .written)
+stored p =
+    let effect = p .before .before .effect in
+    let r = p .before .before .before .before in
+    let known = r .before .before .before in
+    let l = known .before .loop in
+    let valid = sym (r .before .before .decode .ensures) ∙ r .r .given .1 in
+    let pair = rw (effect .ensures) at (laid (l .answers) (p .put-pair .last .0) (_ ∷ _ ∷ []) _ (p .put-pair .ensures)) in
+    rw (effect .ensures) (run-stepped (l .inv) (λ i. known .shared-slice-known2 .given i .fits) _ valid pair)
+
 -- behind the loop's test: another record is counted, its four bytes are there, and so is room
 more : (c : tie.Else1 Inv-loop μ-loop)
-    → (c .before .before .before .before .before .before .before .before .before .before .before .before .before .before .loop .done + 1 < c .before .before .before .before .before .before .before .before .before .before .before .before .before .before .before .before .before .before .before .args .s .count) × ((4 ≤ length (c .before .before .before .before .before .before .before .before .before .before .before .before .before .before .before .before .before .before .before .args .input .now) - (c .before .before .before .before .before .before .before .before .before .before .before .before .before .before .loop .at + 1)) × (2 ≤ length (putMid (c .before .before .before .before .before .before .before .before .before .before .before .before .before .before .loop .written) (length (c .before .before .before .before .before .before .before .before .before .before .before .before .before .before .loop .answers) - c .before .before .before .before .before .before .before .before .before .before .before .before .before .before .loop .written) (c .before .before .before .before .before .before .before .before .before .before .before .before .before .before .loop .answers) (c .before .before .before .before .before .put-pair .last .0)) - (c .before .before .before .before .before .before .before .before .before .before .before .before .before .before .loop .written + 2)))
-more c = goes-on (c .before .before .before .before .before .before .before .before .before .before .before .before .before .before .before .before .before .before .before .args .s .count) (c .before .before .before .before .before .before .before .before .before .before .before .before .before .before .loop .done + 1) (length (c .before .before .before .before .before .before .before .before .before .before .before .before .before .before .before .before .before .before .before .args .input .now)) (c .before .before .before .before .before .before .before .before .before .before .before .before .before .before .loop .at + 1) (length (putMid (c .before .before .before .before .before .before .before .before .before .before .before .before .before .before .loop .written) (length (c .before .before .before .before .before .before .before .before .before .before .before .before .before .before .loop .answers) - c .before .before .before .before .before .before .before .before .before .before .before .before .before .before .loop .written) (c .before .before .before .before .before .before .before .before .before .before .before .before .before .before .loop .answers) (c .before .before .before .before .before .put-pair .last .0))) (c .before .before .before .before .before .before .before .before .before .before .before .before .before .before .loop .written + 2) (c .if1 .left)
+    → let l = c .before .before .before .before .before .before .before .before .before .before .before .before .before .loop in
+    let a = c .before .before .before .before .before .before .before .before .before .before .before .before .before .before .before .before .before .before .args in
+    (l .done + 1 < a .s .count)
+    × ((4 ≤ length (a .input .now) - (l .at + 1))
+    × (2 ≤ length (putMid (l .written) (length (l .answers) - l .written) (l .answers) (c .before .before .before .before .before .put-pair .last .0)) - (l .written + 2)))
+more c =
+    let l = c .before .before .before .before .before .before .before .before .before .before .before .before .before .loop in
+    let a = c .before .before .before .before .before .before .before .before .before .before .before .before .before .before .before .before .before .before .args in
+    let room = length (putMid (l .written) (length (l .answers) - l .written) (l .answers) (c .before .before .before .before .before .put-pair .last .0)) in
+    goes-on (a .s .count) (l .done + 1) (length (a .input .now)) (l .at + 1) room (l .written + 2) (c .if1 .left)
 
 array-read-kind : tie.Need-array-read-kind Inv-loop μ-loop
 array-read-kind c = search needs
@@ -33,9 +58,11 @@ array-read-b c = search needs
 
 loop-holds : tie.Need-loop-holds Inv-loop μ-loop
 loop-holds c =
-    let a = c .before .before .before .before .args in
-    let p = c .before .before .before .before .pre in
-    run-start (a .s) (a .input .now) (a .answers .now) (a .from) (a .start) (p .0) (p .1 .0) (search needs) (p .1 .1 .0) (p .1 .1 .1) (omega arith) (omega arith)
+    let b = c .before .before .before .before in
+    let a = b .args in
+    let p = b .pre in
+    run-start (a .s) (a .input .now) (a .answers .now) (a .from) (a .start) (p .0) (p .1 .0) (search needs) (p .1 .1 .0) (p .1 .1 .1)
+    (omega arith) (omega arith)
 
 shared-slice-read-decode : tie.Need-shared-slice-read-decode Inv-loop μ-loop
 shared-slice-read-decode c = search needs
@@ -63,8 +90,11 @@ same-length c = search needs
 
 returns : tie.Need-returns Inv-loop μ-loop
 returns c =
-    let told = c .before .before .before .enum-told .given .1 in
-    rw (c .refused .ensures, c .before .code .ensures, c .before .before .carrying .ensures, told) (run-refused (c .before .before .before .before .before .before .before .loop .inv) _ (sym (c .before .before .before .before .before .decode .ensures) ∙ told))
+    let carried = c .before .before in
+    let told = carried .before .enum-told .given .1 in
+    let d = carried .before .before .before in
+    rw (c .refused .ensures, c .before .code .ensures, carried .carrying .ensures, told)
+    (run-refused (d .before .before .loop .inv) _ (sym (d .decode .ensures) ∙ told))
 
 effect-requires : tie.Need-effect-requires Inv-loop μ-loop
 effect-requires c κs = search needs
@@ -77,9 +107,6 @@ part-put-pair-start c = search needs
 
 part-put-pair-end : tie.Need-part-put-pair-end Inv-loop μ-loop
 part-put-pair-end c = search needs
-
-answer-requires : tie.Need-answer-requires Inv-loop μ-loop
-answer-requires c κs = search needs
 
 put-pair-requires : tie.Need-put-pair-requires Inv-loop μ-loop
 put-pair-requires c κs = search needs
@@ -106,28 +133,30 @@ report-requires : tie.Need-report-requires Inv-loop μ-loop
 report-requires c κs = search needs
 
 same-length-2 : tie.Need-same-length-2 Inv-loop μ-loop
-same-length-2 c = same-room (c .before .before .before .before .before .before .before .before .before .before .before .before .before .before .before .before .loop .inv) (λ i. c .before .before .before .before .before .before .before .before .before .before .before .before .before .before .before .shared-slice-known2 .given i .fits) _ (sym (c .before .before .before .before .before .before .before .before .before .before .before .before .before .before .decode .ensures) ∙ c .before .before .before .before .before .before .before .before .before .before .before .before .r .given .1) (rw (c .before .before .before .before .before .before .before .before .answer .ensures, c .before .before .before .before .before .before .before .before .before .before .effect .ensures) at (laid (c .before .before .before .before .before .before .before .before .before .before .before .before .before .before .before .before .loop .answers) (c .before .before .before .before .before .before .before .put-pair .last .0) (_ ∷ _ ∷ []) _ (c .before .before .before .before .before .before .before .put-pair .ensures))) ∙ c .before .before .before .before .before .before .before .before .before .before .before .before .before .before .before .before .loop .inv .long
+same-length-2 c =
+    let p = c .before .before .before .before .before .before .before in
+    stored p .long ∙ p .before .before .before .before .before .before .before .before .loop .inv .long
 
 returns-2 : tie.Need-returns-2 Inv-loop μ-loop
-returns-2 c = rw (c .report .ensures, c .before .between .ensures, c .before .before .before .before .before .before .before .before .before .before .effect .ensures) (run-left (c .before .before .before .before .before .before .before .before .before .before .before .before .before .before .before .before .loop .inv) (λ i. c .before .before .before .before .before .before .before .before .before .before .before .before .before .before .before .shared-slice-known2 .given i .fits) _ (sym (c .before .before .before .before .before .before .before .before .before .before .before .before .before .before .decode .ensures) ∙ c .before .before .before .before .before .before .before .before .before .before .before .before .r .given .1) (rw (c .before .before .before .before .before .before .before .before .answer .ensures, c .before .before .before .before .before .before .before .before .before .before .effect .ensures) at (laid (c .before .before .before .before .before .before .before .before .before .before .before .before .before .before .before .before .loop .answers) (c .before .before .before .before .before .before .before .put-pair .last .0) (_ ∷ _ ∷ []) _ (c .before .before .before .before .before .before .before .put-pair .ensures))))
+returns-2 c = rw (c .report .ensures, c .before .between .ensures) (stored (c .before .before .before .before .before .before .before) .left)
 
 shared-slice-read-kind : tie.Need-shared-slice-read-kind Inv-loop μ-loop
-shared-slice-read-kind c = omega (arith, more (c .before) .1 .0, c .before .before .before .before .before .before .before .before .before .before .before .before .before .before .before .loop .inv .input-fits)
+shared-slice-read-kind c = omega (arith, more (c .before) .1 .0)
 
 add-a : tie.Need-add-a Inv-loop μ-loop
-add-a c = omega (arith, more (c .before) .1 .0, c .before .before .before .before .before .before .before .before .before .before .before .before .before .before .before .loop .inv .input-fits)
+add-a c = omega (arith, more (c .before) .1 .0, c .before .before .before .before .before .before .before .before .before .before .before .before .before .before .loop .inv .input-fits)
 
 shared-slice-read-a : tie.Need-shared-slice-read-a Inv-loop μ-loop
-shared-slice-read-a c = omega (arith, more (c .before .before) .1 .0, c .before .before .before .before .before .before .before .before .before .before .before .before .before .before .before .before .loop .inv .input-fits)
+shared-slice-read-a c = omega (arith, more (c .before .before) .1 .0)
 
 add-b : tie.Need-add-b Inv-loop μ-loop
-add-b c = omega (arith, more (c .before .before) .1 .0, c .before .before .before .before .before .before .before .before .before .before .before .before .before .before .before .before .loop .inv .input-fits)
+add-b c = omega (arith, more (c .before .before) .1 .0, c .before .before .before .before .before .before .before .before .before .before .before .before .before .before .before .loop .inv .input-fits)
 
 shared-slice-read-b : tie.Need-shared-slice-read-b Inv-loop μ-loop
-shared-slice-read-b c = omega (arith, more (c .before .before .before) .1 .0, c .before .before .before .before .before .before .before .before .before .before .before .before .before .before .before .before .before .loop .inv .input-fits)
+shared-slice-read-b c = omega (arith, more (c .before .before .before) .1 .0)
 
 add-at-2 : tie.Need-add-at-2 Inv-loop μ-loop
-add-at-2 c = omega (arith, more (c .before .before .before) .1 .0, c .before .before .before .before .before .before .before .before .before .before .before .before .before .before .before .before .before .loop .inv .input-fits)
+add-at-2 c = omega (arith, more (c .before .before .before) .1 .0, c .before .before .before .before .before .before .before .before .before .before .before .before .before .before .before .before .loop .inv .input-fits)
 
 loop-less : tie.Need-loop-less Inv-loop μ-loop
 loop-less c = search needs
@@ -135,8 +164,10 @@ loop-less c = search needs
 loop-again : tie.Need-loop-again Inv-loop μ-loop
 loop-again c =
     let n = more (c .before .before .before) in
-    let long = same-room (c .before .before .before .before .before .before .before .before .before .before .before .before .before .before .before .before .before .loop .inv) (λ i. c .before .before .before .before .before .before .before .before .before .before .before .before .before .before .before .before .shared-slice-known2 .given i .fits) _ (sym (c .before .before .before .before .before .before .before .before .before .before .before .before .before .before .before .decode .ensures) ∙ c .before .before .before .before .before .before .before .before .before .before .before .before .before .r .given .1) (rw (c .before .before .before .before .before .before .before .before .before .answer .ensures, c .before .before .before .before .before .before .before .before .before .before .before .effect .ensures) at (laid (c .before .before .before .before .before .before .before .before .before .before .before .before .before .before .before .before .before .loop .answers) (c .before .before .before .before .before .before .before .before .put-pair .last .0) (_ ∷ _ ∷ []) _ (c .before .before .before .before .before .before .before .before .put-pair .ensures))) in
-    rw (c .before .before .before .before .before .before .before .before .before .before .before .effect .ensures) (run-again (c .before .before .before .before .before .before .before .before .before .before .before .before .before .before .before .before .before .loop .inv) (λ i. c .before .before .before .before .before .before .before .before .before .before .before .before .before .before .before .before .shared-slice-known2 .given i .fits) _ (sym (c .before .before .before .before .before .before .before .before .before .before .before .before .before .before .before .decode .ensures) ∙ c .before .before .before .before .before .before .before .before .before .before .before .before .before .r .given .1) (rw (c .before .before .before .before .before .before .before .before .before .answer .ensures, c .before .before .before .before .before .before .before .before .before .before .before .effect .ensures) at (laid (c .before .before .before .before .before .before .before .before .before .before .before .before .before .before .before .before .before .loop .answers) (c .before .before .before .before .before .before .before .before .put-pair .last .0) (_ ∷ _ ∷ []) _ (c .before .before .before .before .before .before .before .before .put-pair .ensures))) (n .0) (omega (arith, n .1 .0)) (omega (arith, n .1 .1, c .before .before .before .before .before .before .before .before .before .before .before .before .before .before .before .before .before .loop .inv .room, long)) long)
+    let p = c .before .before .before .before .before .before .before .before in
+    let step = stored p in
+    let room = p .before .before .before .before .before .before .before .before .loop .inv .room in
+    step .again (n .0) (omega (arith, n .1 .0)) (omega (arith, n .1 .1, room, step .long))
 
 pub run-spec : {M : Type 1} → statement M
 run-spec =
@@ -161,7 +192,6 @@ run-spec =
     sub-put-pair
     part-put-pair-start
     part-put-pair-end
-    answer-requires
     put-pair-requires
     add-done
     add-written
