@@ -31,7 +31,8 @@ module _ (s : Reader) (xs : List ℕ) (room : ℕ) (three : length (s .bytes) �
   leads-to f e = rw (f .ranges) (rw e at (leads s three f xs room))
 
   -- a line of the records gives its code, and is a line of the table
-  in-lines : {n code : ℕ} {l : List ℕ} → Free s → headerAhead s xs ≡ complete n l → Lines n (s .done) (carriedOf s ++ l) room code → callOf s xs room .code ≡ code
+  in-lines : {n code : ℕ} {l : List ℕ} → Free s → headerAhead s xs ≡ complete n l → Lines n (s .done) (carriedOf s ++ l) room code
+      → callOf s xs room .code ≡ code
   unfolding Leads
   in-lines {n} {code} {l} f e m = let t = leads-to f e in t .1 ∙ by-line n (s .done) (t .0) (carriedOf s ++ l) room code m
 
@@ -86,7 +87,10 @@ module _ (s : Reader) where
   finishes _ (Finishes.before-end f n) =
       let h = headerDone s in
       let d = eqb (s .done) (s .count) in
-      simp (f .ranges, f .none) (cond-ind (λ (code : ℕ). code ≡ 6) (h && d) (λ e. absurd (n (eqb-true _ _ (and-left h d e)) (eqb-true _ _ (and-right h d e)))) (λ _. refl))
+      simp (f .ranges, f .none)
+      (cond-ind (λ (code : ℕ). code ≡ 6) (h && d)
+      (λ e. absurd (n (eqb-true _ _ (and-left h d e)) (eqb-true _ _ (and-right h d e))))
+      (λ _. refl))
   finishes _ (Finishes.at-end f h d) = simp (f .ranges, f .none, h, d, eq-eqb)
 
   -- the same of finishing

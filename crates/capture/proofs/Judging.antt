@@ -121,7 +121,8 @@ skip (suc j) n k room [] l h c v r = absurd (omega arith)
 skip (suc j) n k room (q ∷ qs) l h c v r =
     let d : k + 1 + j ≡ k + suc j = omega arith in
     let m : room - 2 - j * 2 ≡ room - suc j * 2 = omega arith in
-    simp (lt-ltb k n (omega arith), v .0 .1, le-leb 2 room (omega arith)) (skip j n (k + 1) (room - 2) qs l (omega arith) (omega arith) (v .1) (omega arith) ∙ rw (d, m))
+    simp (lt-ltb k n (omega arith), v .0 .1, le-leb 2 room (omega arith))
+    (skip j n (k + 1) (room - 2) qs l (omega arith) (omega arith) (v .1) (omega arith) ∙ rw (d, m))
 
 -- a string's length, by its complete records and the bytes over
 record Sized (l : List ℕ) : Type 0 where
@@ -179,7 +180,8 @@ judges n k l room _ (past-end p) =
 judges n k l room _ (no-room {j = j} m v h) = reach m ∙ rw (v .1, lt-leb 2 (room - j * 2) (omega (arith, m .space)))
 judges n k l room _ (in-records d) =
     let z = sized l in
-    skip (length (quads l)) n k room (quads l) (over l) (omega arith) (omega (arith, d .within)) (rw (take-all (length (quads l)) (quads l) (omega arith)) (d .before)) (d .space)
+    let valid : AllValid (take (length (quads l)) (quads l)) = rw (take-all (length (quads l)) (quads l) (omega arith)) (d .before) in
+    skip (length (quads l)) n k room (quads l) (over l) (omega arith) (omega (arith, d .within)) valid (d .space)
     ∙ rw (drop-of-length-le (quads l) {i = length (quads l)} (omega arith)) (rests n (k + length (quads l)) _ (over l) (omega (arith, d .within)))
 
 -- ---- the code given has its line
@@ -224,7 +226,9 @@ module _ (n k : ℕ) (q : Quad) (xs : List ℕ) (room : ℕ) (more : k < n) wher
   lined : {code : ℕ} (r : Record) → quadOf q ≡ r → Lines n (k + 1) xs (room - 2) code → Lines n k (ahead q xs) room (judgedCode r (cond (leb 2 room) code 7))
   unfolding codeOf
   lined (Valid e) t next =
-      cond-ind (Lines n k (ahead q xs) room) (leb 2 room) (λ two. shift (e, t) (leb-true 2 room two) next) (λ none. no-room here (e, t) (omega (arith, leb-false 2 room none)))
+      cond-ind (Lines n k (ahead q xs) room) (leb 2 room)
+      (λ two. shift (e, t) (leb-true 2 room two) next)
+      (λ none. no-room here (e, t) (omega (arith, leb-false 2 room none)))
   lined (Refused Kind) t next = kind here (kind-refused (q .kind) (q .a) (q .b) (q .c) .0 t)
   lined (Refused Operand) t next = operand here t
 

@@ -17,6 +17,7 @@ use Rattle.record.specs.declared.Refusal.{Refusal}
 use Rattle.record.specs.declared.Refusal.the-variants.{Kind, Operand}
 use Rattle.record.specs.Record.{decodeOf, codeOf}
 use Rattle.capture.specs.declared.Reader.{Reader}
+use Rattle.capture.specs.declared.Answered.{Answered}
 use Rattle.capture.specs.Sensor.{Sensor, headerLength, sensorEffect}
 use Rattle.capture.specs.Reader.{withCarried, holdOf, betweenOf, headerLengthOf, headerDone, rangesOf}
 use Rattle.capture.specs.Reader.{quietOf, answeredOf, judgedOf, turnOf, feedOf, Out, joinOf, reportOf, Meets}
@@ -146,17 +147,30 @@ next-three {o} {input} {entry} {answers} s done device {at} {written} small z h 
 
 -- ---- the loop
 
--- what its test says where it is not met
-pub goes-on : (count done input at room written : ℕ) → (leb count done || ltb (input - at) 4 || ltb (room - written) 2) ≡ false
-    → (done < count) × ((4 ≤ input - at) × (2 ≤ room - written))
-goes-on count done input at room written e = split (leb count done) (ltb (input - at) 4) (ltb (room - written) 2) refl refl refl e
+-- where it goes on: another record is counted, its four bytes are there, and so is room
+pub record Next (count done input at answers written : ℕ) : Type 0 where
+  pub counted : done + 1 < count
+  pub bytes : at + 1 + 4 ≤ input
+  pub room : written + 2 + 2 ≤ answers
+  pub fits : input < 2 ^ 64
+
+-- its test says so
+pub goes-on : {count done input at room written : ℕ} → input < 2 ^ 64
+    → (leb count (done + 1) || ltb (input - (at + 1)) 4 || ltb (room - (written + 2)) 2) ≡ false → Next count done input at room written
+goes-on {count} {done} {input} {at} {room} {written} f e =
+    split (leb count (done + 1)) (ltb (input - (at + 1)) 4) (ltb (room - (written + 2)) 2) refl refl refl e
   where
-    split : (x y z : Bool) → leb count done ≡ x → ltb (input - at) 4 ≡ y → ltb (room - written) 2 ≡ z → (x || y || z) ≡ false
-        → (done < count) × ((4 ≤ input - at) × (2 ≤ room - written))
+    split : (x y z : Bool) → leb count (done + 1) ≡ x → ltb (input - (at + 1)) 4 ≡ y → ltb (room - (written + 2)) 2 ≡ z
+        → (x || y || z) ≡ false → Next count done input at room written
     split true y z a b c n = absurd (subst T n tt)
     split false true z a b c n = absurd (subst T n tt)
     split false false true a b c n = absurd (subst T n tt)
-    split false false false a b c n = (leb-false count done a, (ltb-false (input - at) 4 b, ltb-false (room - written) 2 c))
+    split false false false a b c n = record {
+      counted = leb-false count (done + 1) a;
+      bytes = omega (arith, ltb-false (input - (at + 1)) 4 b);
+      room = omega (arith, ltb-false (room - (written + 2)) 2 c);
+      fits = f;
+    }
 
 -- what is known at its head
 pub record Running (s : Reader) (input before : List ℕ) (from start : ℕ)
@@ -197,7 +211,7 @@ pub record Stepped (s : Reader) (input before : List ℕ) (from start : ℕ)
     (answers after : List ℕ) (device : Sensor) (done at written : ℕ) : Type 0 where
   pub long : length after ≡ length answers
   pub left : Took input before s from start after (reportOf 0 (at + 1) (written + 2) (betweenOf s (done + 1) device))
-  pub again : done + 1 < s .count → at + 1 + 4 ≤ length input → written + 2 + 2 ≤ length after
+  pub again : Next (s .count) done (length input) at (length after) written
       → Running s input before from start after (getD input (at + 1) 0) (getD input (at + 1 + 1) 0) (getD input (at + 1 + 2) 0)
       device (done + 1) (at + 1 + 3) (written + 2)
 
@@ -234,21 +248,28 @@ module _ {s : Reader} {input before : List ℕ} {from start : ℕ} {answers : Li
         let w : length (take written answers) ≡ written = length-take-le written answers (omega (arith, r .room)) in
         rw laid (simp (length-append, length-drop, w) (omega (arith, r .room)))
 
-    pub run-stepped : Stepped s input before from start answers after next done at written
+    run-stepped : Stepped s input before from start answers after next done at written
     run-stepped = record {
       long = same-room;
       left = record { onward = λ _. done-one; forward = λ _. omega (arith, r .forward); ends = λ n. absurd (n refl) };
-      again = λ d l n. record {
+      again = λ n. record {
         waits = r .waits;
         complete = finished;
-        onward = λ o entry g. next-three s (done + 1) next small (r .waits .held) finished d l (done-one o entry g);
+        onward = λ o entry g. next-three s (done + 1) next small (r .waits .held) finished (n .counted) (n .bytes) (done-one o entry g);
         forward = omega (arith, r .forward);
-        inside = omega arith;
-        counted = d;
-        room = n;
+        inside = omega (arith, n .bytes);
+        counted = n .counted;
+        room = n .room;
         long = same-room ∙ r .long;
         input-fits = r .input-fits;
         answers-fit = r .answers-fit;
         count-fits = r .count-fits;
       };
     }
+
+  -- the same of the effect's outcome, under any name
+  pub run-effect : ((i : ℕ) → getD input i 0 < 256) → (e : Event) → decodeOf kind a b (getD input at 0) ≡ Valid e
+      → {o : Answered} → o ≡ sensorEffect device e
+      → {after : List ℕ} → after ≡ take written answers ++ (o .first ∷ o .second ∷ drop 2 (drop written answers))
+      → Stepped s input before from start answers after (o .sensor) done at written
+  run-effect small e q f laid = rw f (run-stepped small e q (rw f at laid))

@@ -1,13 +1,13 @@
 -- Assumes nothing.
 use borrow.Author.Needs.{needs}
-use Prim.Native.Nat.{_+_, _-_, _≤_, _<_}
+use Prim.Native.Nat.{ℕ, _-_}
 use borrow.Rule.Slice.PartMut.{putMid}
 use native.Mathlib.Omega.{arith}
 use lib.ListN.{length}
 use mathlib.Core.Path.{sym, _∙_}
-use mathlib.Core.List.{[], _∷_}
+use mathlib.Core.List.{List, [], _∷_}
 use Rattle.laws.proofs.Buffers.{laid}
-use Rattle.capture.proofs.Records.{Running, Stepped, goes-on, run-start, run-refused, run-stepped}
+use Rattle.capture.proofs.Records.{Running, Stepped, Next, goes-on, run-start, run-refused, run-effect}
 use Rattle.capture.proofs.running.run.Statement.{statement}
 use Rattle.capture.proofs.running.run.Tie as tie
 
@@ -18,34 +18,32 @@ Inv-loop s input from answers₀ start kind₀ a₀ b₀ device₀ done₀ at₀
 abbrev μ-loop : tie.MeasureT-loop
 μ-loop s input from answers₀ start kind₀ a₀ b₀ device₀ done₀ at₀ written₀ answers kind a b device done at written = length input - at
 
--- a record is stepped and its pair stored
+-- the answers with a record's pair stored
+abbrev after : tie.After-put-pair Inv-loop μ-loop → List ℕ
+after p =
+    let l = p .before .before .before .before .before .before .before .before .loop in
+    putMid (l .written) (length (l .answers) - l .written) (l .answers) (p .put-pair .last .0)
+
 stored : (p : tie.After-put-pair Inv-loop μ-loop)
     → let l = p .before .before .before .before .before .before .before .before .loop in
     let a = p .before .before .before .before .before .before .before .before .before .before .before .before .before .args in
-    Stepped (a .s) (a .input .now) (a .answers .now) (a .from) (a .start) (l .answers)
-    (putMid (l .written) (length (l .answers) - l .written) (l .answers) (p .put-pair .last .0))
+    Stepped (a .s) (a .input .now) (a .answers .now) (a .from) (a .start) (l .answers) (after p)
     (p .before .before .effect .result .sensor) (l .done) (l .at) (l .written)
 stored p =
-    let effect = p .before .before .effect in
     let r = p .before .before .before .before in
     let known = r .before .before .before in
     let l = known .before .loop in
     let valid = sym (r .before .before .decode .ensures) ∙ r .r .given .1 in
-    let pair = rw (effect .ensures) at (laid (l .answers) (p .put-pair .last .0) (_ ∷ _ ∷ []) _ (p .put-pair .ensures)) in
-    rw (effect .ensures) (run-stepped (l .inv) (λ i. known .shared-slice-known2 .given i .fits) _ valid pair)
+    run-effect (l .inv) (λ i. known .shared-slice-known2 .given i .fits) _ valid (p .before .before .effect .ensures)
+    (laid (l .answers) (p .put-pair .last .0) (_ ∷ _ ∷ []) _ (p .put-pair .ensures))
 
--- behind the loop's test: another record is counted, its four bytes are there, and so is room
+-- behind the loop's test
 more : (c : tie.Else1 Inv-loop μ-loop)
-    → let l = c .before .before .before .before .before .before .before .before .before .before .before .before .before .loop in
-    let a = c .before .before .before .before .before .before .before .before .before .before .before .before .before .before .before .before .before .before .args in
-    (l .done + 1 < a .s .count)
-    × ((4 ≤ length (a .input .now) - (l .at + 1))
-    × (2 ≤ length (putMid (l .written) (length (l .answers) - l .written) (l .answers) (c .before .before .before .before .before .put-pair .last .0)) - (l .written + 2)))
-more c =
-    let l = c .before .before .before .before .before .before .before .before .before .before .before .before .before .loop in
-    let a = c .before .before .before .before .before .before .before .before .before .before .before .before .before .before .before .before .before .before .args in
-    let room = length (putMid (l .written) (length (l .answers) - l .written) (l .answers) (c .before .before .before .before .before .put-pair .last .0)) in
-    goes-on (a .s .count) (l .done + 1) (length (a .input .now)) (l .at + 1) room (l .written + 2) (c .if1 .left)
+    → let p = c .before .before .before .before .before in
+    let l = p .before .before .before .before .before .before .before .before .loop in
+    let a = p .before .before .before .before .before .before .before .before .before .before .before .before .before .args in
+    Next (a .s .count) (l .done) (length (a .input .now)) (l .at) (length (after p)) (l .written)
+more c = goes-on (c .before .before .before .before .before .before .before .before .before .before .before .before .before .loop .inv .input-fits) (c .if1 .left)
 
 array-read-kind : tie.Need-array-read-kind Inv-loop μ-loop
 array-read-kind c = search needs
@@ -141,33 +139,28 @@ returns-2 : tie.Need-returns-2 Inv-loop μ-loop
 returns-2 c = rw (c .report .ensures, c .before .between .ensures) (stored (c .before .before .before .before .before .before .before) .left)
 
 shared-slice-read-kind : tie.Need-shared-slice-read-kind Inv-loop μ-loop
-shared-slice-read-kind c = omega (arith, more (c .before) .1 .0)
+shared-slice-read-kind c = omega (arith, more (c .before))
 
 add-a : tie.Need-add-a Inv-loop μ-loop
-add-a c = omega (arith, more (c .before) .1 .0, c .before .before .before .before .before .before .before .before .before .before .before .before .before .before .loop .inv .input-fits)
+add-a c = omega (arith, more (c .before))
 
 shared-slice-read-a : tie.Need-shared-slice-read-a Inv-loop μ-loop
-shared-slice-read-a c = omega (arith, more (c .before .before) .1 .0)
+shared-slice-read-a c = omega (arith, more (c .before .before))
 
 add-b : tie.Need-add-b Inv-loop μ-loop
-add-b c = omega (arith, more (c .before .before) .1 .0, c .before .before .before .before .before .before .before .before .before .before .before .before .before .before .before .loop .inv .input-fits)
+add-b c = omega (arith, more (c .before .before))
 
 shared-slice-read-b : tie.Need-shared-slice-read-b Inv-loop μ-loop
-shared-slice-read-b c = omega (arith, more (c .before .before .before) .1 .0)
+shared-slice-read-b c = omega (arith, more (c .before .before .before))
 
 add-at-2 : tie.Need-add-at-2 Inv-loop μ-loop
-add-at-2 c = omega (arith, more (c .before .before .before) .1 .0, c .before .before .before .before .before .before .before .before .before .before .before .before .before .before .before .before .loop .inv .input-fits)
+add-at-2 c = omega (arith, more (c .before .before .before))
 
 loop-less : tie.Need-loop-less Inv-loop μ-loop
 loop-less c = search needs
 
 loop-again : tie.Need-loop-again Inv-loop μ-loop
-loop-again c =
-    let n = more (c .before .before .before) in
-    let p = c .before .before .before .before .before .before .before .before in
-    let step = stored p in
-    let room = p .before .before .before .before .before .before .before .before .loop .inv .room in
-    step .again (n .0) (omega (arith, n .1 .0)) (omega (arith, n .1 .1, room, step .long))
+loop-again c = stored (c .before .before .before .before .before .before .before .before) .again (more (c .before .before .before))
 
 pub run-spec : {M : Type 1} → statement M
 run-spec =
