@@ -15,12 +15,11 @@ use Rattle.laws.proofs.Choices.{cond-ind, by-test, and-left, and-right}
 use Rattle.laws.proofs.Exactly.{by-lines}
 use Rattle.registers.specs.Page.{among}
 use Rattle.capture.specs.declared.Reader.{Reader}
-use Rattle.capture.specs.Sensor.{headerLength}
-use Rattle.capture.specs.Reader.{Out, rangesOf, turnOf, pairOf, feedOf, callOf, finishOf}
+use Rattle.capture.specs.Reader.{Out, headerDone, rangesOf, turnOf, pairOf, feedOf, callOf, finishOf}
 use Rattle.capture.specs.Codes.{Header, headerAhead, carriedOf, Free, Gives, Finishes, callCodes, finishCodes}
 use Rattle.capture.specs.Codes.Header.{badCount, badVariant, unfinished, complete}
 use Rattle.capture.proofs.InRange.{ranges}
-use Rattle.capture.proofs.Turns.{way, held-most}
+use Rattle.capture.proofs.Ways.{way, held-most}
 use Rattle.capture.proofs.Outcomes.{feed-stop, feed-full, feed-on}
 use Rattle.capture.proofs.Run.{cases}
 use Rattle.capture.proofs.Judging.{Lines, refused, ended, by-line, has-line}
@@ -94,7 +93,7 @@ module _ (s : Reader) where
   finishes _ (Finishes.out-of-ranges o) = simp o
   finishes _ (Finishes.held h n) = simp (h, ne-eqb (s .held) 0 n)
   finishes _ (Finishes.before-end f n) =
-      let h = eqb (s .head) headerLength in
+      let h = headerDone s in
       let d = eqb (s .done) (s .count) in
       let unmet : (h && d) ≡ true → ⊥ = λ e. n (eqb-true _ _ (and-left h d e)) (eqb-true _ _ (and-right h d e)) in
       simp (f .ranges, f .none) (cond-ind (λ (code : ℕ). code ≡ 6) (h && d) (λ e. absurd (unmet e)) (λ _. refl))
@@ -114,7 +113,7 @@ module _ (s : Reader) where
     where
       free : Free s → Finishes s (finishOf s)
       free f =
-          by-test (eqb (s .head) headerLength)
+          by-test (headerDone s)
           (λ h. by-test (eqb (s .done) (s .count))
           (λ d. told-end (Finishes.at-end f (eqb-true _ _ h) (eqb-true _ _ d)))
           (λ d. told-end (Finishes.before-end f (λ _. eqb-false _ _ d))))

@@ -11,10 +11,11 @@ use Rattle.record.specs.declared.Record.the-variants.{Valid, Refused}
 use Rattle.record.specs.Record.{decodeOf}
 use Rattle.device.specs.Ranges.{variantOf}
 use Rattle.capture.specs.declared.Reader.{Reader}
-use Rattle.capture.specs.Reader.{Turn, headOf, judgedOf, recordOf, turnOf, pairOf, feedOf, callOf, freshOf}
+use Rattle.capture.specs.Sensor.{countPlace}
+use Rattle.capture.specs.Reader.{inHeader, Turn, headOf, judgedOf, recordOf, turnOf, pairOf, feedOf, callOf, freshOf}
 use Rattle.capture.specs.Schedule.{Bytes}
 use borrow.Author.Tests.{leb-true, eqb-true}
-use Rattle.capture.proofs.InRange.{ranges, below-limit, limit-all}
+use Rattle.capture.proofs.InRange.{ranges, count-fits}
 use Rattle.capture.proofs.Cuts.{fresh-ranges}
 use Rattle.laws.proofs.Choices.{cond-ind}
 use Rattle.capture.proofs.Outcomes.{feed-stop, feed-full, feed-on}
@@ -32,7 +33,7 @@ head-same : (s : Reader) (b : ℕ) → headOf s b .done ≡ s .done
 unfolding headOf
 head-same s b =
     cond-ind Same (eqb (s .head) 0) (λ _. cond-ind Same (eqb b 1) (λ _. refl) (λ _. refl))
-    (λ _. cond-ind Same (eqb (s .head) 1) (λ _. cond-ind Same (variantOf b) (λ _. refl) (λ _. refl)) (λ _. refl))
+    (λ _. cond-ind Same (ltb (s .head) (countPlace (s .device))) (λ _. cond-ind Same (variantOf b) (λ _. refl) (λ _. refl)) (λ _. refl))
   where
     Same : Reader → Type 0
     Same t = t .done ≡ s .done
@@ -41,9 +42,9 @@ turn-even : (s : Reader) (b : ℕ) → Even s (turnOf s b)
 unfolding turnOf recordOf
 turn-even s b =
     cond-ind (Even s) (eqb (s .held) 0)
-    (λ _. cond-ind (Even s) (ltb (s .head) 6) (λ _. omega (arith, head-same s b))
+    (λ _. cond-ind (Even s) (inHeader s) (λ _. omega (arith, head-same s b))
     (λ _. cond-ind (Even s) (ltb (s .done) (s .count))
-    (λ _. cond-ind (Even s) (ltb (s .carried) 3) (λ _. omega arith) (λ _. judged-even s (decodeOf (getD (s .bytes) 0 0) (getD (s .bytes) 1 0) (getD (s .bytes) 2 0) b)))
+    (λ _. cond-ind (Even s) (ltb (s .carried) 3) (λ _. omega arith) (λ _. judged-even s (decodeOf _ _ _ b)))
     (λ _. omega arith)))
     (λ _. omega arith)
 
@@ -52,9 +53,9 @@ refused-quiet : (s : Reader) (b : ℕ) → (turnOf s b .reader .held ≡ 0 → �
 unfolding turnOf recordOf
 refused-quiet s b =
     cond-ind Quiet (eqb (s .held) 0)
-    (λ z. cond-ind Quiet (ltb (s .head) 6) (λ _ _. refl)
+    (λ z. cond-ind Quiet (inHeader s) (λ _ _. refl)
     (λ _. cond-ind Quiet (ltb (s .done) (s .count))
-    (λ _. cond-ind Quiet (ltb (s .carried) 3) (λ _ _. refl) (λ _. judged-quiet (eqb-true _ _ z) (decodeOf (getD (s .bytes) 0 0) (getD (s .bytes) 1 0) (getD (s .bytes) 2 0) b)))
+    (λ _. cond-ind Quiet (ltb (s .carried) 3) (λ _ _. refl) (λ _. judged-quiet (eqb-true _ _ z) (decodeOf _ _ _ b)))
     (λ _ _. refl)))
     (λ _ _. refl)
   where
@@ -70,7 +71,9 @@ unfolding feedOf
 feed-even s [] room = omega arith
 feed-even s (b ∷ xs) room = cases _ s b room
     (λ n. rw (feed-stop s b xs room n) (omega (arith, turn-even s b, ap length (refused-quiet s b n))))
-    (λ z l. rw (feed-on s b xs room z l) (simp length-append (omega (arith, turn-even s b, feed-even (turnOf s b .reader) xs (room - length (pairOf (turnOf s b)))))))
+    (λ z l.
+    let rest = feed-even (turnOf s b .reader) xs (room - length (pairOf (turnOf s b))) in
+    rw (feed-on s b xs room z l) (simp length-append (omega (arith, turn-even s b, rest))))
     (λ z l. rw (feed-full s b xs room z l) (omega arith))
 
 -- a slice's rule, as a fact of the list
@@ -84,4 +87,4 @@ written-small xs room k =
     rw fresh-ranges
     (let s = feedOf freshOf xs room .reader in
     let h = feed-ranges freshOf xs room k fresh-ranges in
-    omega (arith, feed-even freshOf xs room, leb-true (s .done) (s .count) (ranges s h .place .1 .1 .1 .1 .1 .1 .1 .0), below-limit s h, limit-all (s .head)))
+    omega (arith, feed-even freshOf xs room, leb-true (s .done) (s .count) (ranges s h .place .done), count-fits s h))

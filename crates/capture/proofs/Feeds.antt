@@ -94,14 +94,26 @@ module _ {o : Out} {input entry answers : List ℕ} {s : Reader} {at written : �
       room = g .room;
       long = g .long;
       rest = g .rest;
-      same = g .same ∙ ap (joinOf at (take written answers)) (rw next (rw (← turn) at (feed-stop s (getD input at 0) (drop (at + 1) input) (length entry - written) (rw turn at n))) ∙ sym (held-feed (t .reader) (drop at input) (length entry - written) n));
+      same = g .same ∙ ap (joinOf at (take written answers)) (stop ∙ sym (held-feed (t .reader) (drop at input) (length entry - written) n));
     }
+      where
+        stop : feedOf s (drop at input) (length entry - written) ≡ stopOf (t .reader)
+        stop =
+            let e = feed-stop s (getD input at 0) (drop (at + 1) input) (length entry - written) (rw turn at n) in
+            rw next (rw (← turn) at e)
 
     -- a turn that is taken: the outcome so far, with the pair behind it
     taken : t .reader .held ≡ 0 → length (pairOf t) ≤ length entry - written
         → o ≡ joinOf (at + 1) (take written answers ++ pairOf t) (feedOf (t .reader) (drop (at + 1) input) (length entry - written - length (pairOf t)))
     taken z l =
-        g .same ∙ rw (next, turn) (ap (joinOf at (take written answers)) (feed-on s (getD input at 0) (drop (at + 1) input) (length entry - written) (rw turn at z) (rw turn at l)) ∙ join-join at 1 (take written answers) (pairOf (turnOf s (getD input at 0))) (feedOf (turnOf s (getD input at 0) .reader) (drop (at + 1) input) (length entry - written - length (pairOf (turnOf s (getD input at 0))))))
+        let b = getD input at 0 in
+        let room = length entry - written in
+        let more = drop (at + 1) input in
+        let u = turnOf s b in
+        g .same
+        ∙ rw (next, turn)
+        (ap (joinOf at (take written answers)) (feed-on s b more room (rw turn at z) (rw turn at l))
+        ∙ join-join at 1 (take written answers) (pairOf u) (feedOf (u .reader) more (room - length (pairOf u))))
 
     pub silent : rangesOf (t .reader) ≡ true → t .reader .held ≡ 0 → t .pair ≡ false → Going o input entry answers (t .reader) (at + 1) written
     silent k z p = record {
@@ -117,7 +129,9 @@ module _ {o : Out} {input entry answers : List ℕ} {s : Reader} {at written : �
         → after ≡ take written answers ++ (t .first ∷ t .second ∷ drop 2 (drop written answers)) → Going o input entry after (t .reader) (at + 1) (written + 2)
     paired {after} k z p n e =
         let w : length (take written answers) ≡ written = length-take-le written answers (omega (arith, g .long, g .room)) in
-        let f : take (written + 2) after ≡ take written answers ++ (t .first ∷ t .second ∷ []) = rw e (front (take written answers) (t .first) (t .second) (drop 2 (drop written answers)) w) in
+        let f : take (written + 2) after ≡ take written answers ++ (t .first ∷ t .second ∷ []) =
+        rw e (front (take written answers) (t .first) (t .second) (drop 2 (drop written answers)) w)
+        in
         record {
           ok = k;
           within = omega arith;
@@ -128,10 +142,12 @@ module _ {o : Out} {input entry answers : List ℕ} {s : Reader} {at written : �
         }
 
 -- at a state in its ranges the call is the feed; at another it is 8 and changes nothing
-pub called : (s : Reader) (input entry : List ℕ) {r : Fed} {exit : List ℕ} → rangesOf s ≡ true → Meets (feedOf s input (length entry)) r entry exit → Meets (callOf s input (length entry)) r entry exit
+pub called : (s : Reader) (input entry : List ℕ) {r : Fed} {exit : List ℕ} → rangesOf s ≡ true
+    → Meets (feedOf s input (length entry)) r entry exit → Meets (callOf s input (length entry)) r entry exit
 called s input entry h m = simp h m
 
-pub outside : (s : Reader) (input entry : List ℕ) → rangesOf s ≡ false → Meets (callOf s input (length entry)) (record { code = 8; consumed = 0; written = 0; reader = s }) entry entry
+pub outside : (s : Reader) (input entry : List ℕ) → rangesOf s ≡ false
+    → Meets (callOf s input (length entry)) (record { code = 8; consumed = 0; written = 0; reader = s }) entry entry
 outside s input entry h = simp h (record { code = refl; consumed = refl; written = refl; reader = refl; buffer = refl })
 
 -- two stores

@@ -24,7 +24,7 @@ use Rattle.capture.specs.Reader.{Out, holdOf, quietOf, answeredOf, turnO
 use Rattle.capture.specs.Whole.{Quad, quads, over, quadOf, recording}
 use Rattle.capture.specs.Codes.{knownKind, IsValid, AllValid, Judged, Past, Done}
 use Rattle.capture.proofs.Outcomes.{feed-stop, feed-full, feed-on}
-use Rattle.capture.proofs.Sections.{first, second, third, fourth, past, lasting}
+use Rattle.capture.proofs.Sections.{first, second, third, fourth, past, stepped, lasting}
 
 -- ---- a call's code, byte by byte
 
@@ -62,7 +62,9 @@ module _ (n k : ℕ) (d : Sensor) where
     carries (x ∷ []) h = taken _ x xs room (first n k d e x) refl
     carries (x ∷ a ∷ []) h = taken _ x (a ∷ xs) room (first n k d e x) refl ∙ taken _ a xs room (second n k d e x a) refl
     carries (x ∷ a ∷ b ∷ []) h =
-        taken _ x (a ∷ b ∷ xs) room (first n k d e x) refl ∙ taken _ a (b ∷ xs) room (second n k d e x a) refl ∙ taken _ b xs room (third n k d e x a b) refl
+        taken _ x (a ∷ b ∷ xs) room (first n k d e x) refl
+        ∙ taken _ a (b ∷ xs) room (second n k d e x a) refl
+        ∙ taken _ b xs room (third n k d e x a b) refl
     carries (x ∷ a ∷ b ∷ c ∷ l) h = absurd (omega arith)
 
   -- fewer than four bytes, and no more
@@ -81,21 +83,33 @@ feed-judge n k d (x ∷ a ∷ []) room = short n k d x (a ∷ []) room (omega ar
 feed-judge n k d (x ∷ a ∷ b ∷ []) room = short n k d x (a ∷ b ∷ []) room (omega arith)
 feed-judge n k d (x ∷ a ∷ b ∷ c ∷ xs) room =
     by-test (ltb k n)
-    (λ e. simp e (carries n k d e (c ∷ xs) room (x ∷ a ∷ b ∷ []) (omega arith) ∙ go e (decodeOf x a b c) refl (λ v. feed-judge n (k + 1) (sensorEffect d v .sensor) xs (room - 2))))
+    (λ e.
+    simp e
+    (carries n k d e (c ∷ xs) room (x ∷ a ∷ b ∷ []) (omega arith)
+    ∙ go e (decodeOf x a b c) refl (λ v. feed-judge n (k + 1) (sensorEffect d v .sensor) xs (room - 2))))
     (λ e. simp e (refused _ x (a ∷ b ∷ c ∷ xs) room (past n k d e x) (λ z. omega arith)))
   where
+    s : Reader
+    s = recording n k d (x ∷ a ∷ b ∷ [])
+
+    -- the code of what comes after the record
+    rest : ℕ
+    rest = judgeOf n (k + 1) (room - 2) (quads xs) (over xs)
+
     go : ltb k n ≡ true → (r : Record) → decodeOf x a b c ≡ r
-        → ((v : Event) → feedOf (recording n (k + 1) (sensorEffect d v .sensor) []) xs (room - 2) .code ≡ judgeOf n (k + 1) (room - 2) (quads xs) (over xs))
-        → feedOf (recording n k d (x ∷ a ∷ b ∷ [])) (c ∷ xs) room .code ≡ judgedCode (decodeOf x a b c) (cond (leb 2 room) (judgeOf n (k + 1) (room - 2) (quads xs) (over xs)) 7)
+        → ((v : Event) → feedOf (recording n (k + 1) (sensorEffect d v .sensor) []) xs (room - 2) .code ≡ rest)
+        → feedOf s (c ∷ xs) room .code ≡ judgedCode (decodeOf x a b c) (cond (leb 2 room) rest 7)
     go e (Valid v) q ih =
-        let t : turnOf (recording n k d (x ∷ a ∷ b ∷ [])) c ≡ answeredOf (recording n k d (x ∷ a ∷ b ∷ [])) (sensorEffect d v) = rw q at (fourth n k d e x a b c) in
-        let s = recording n k d (x ∷ a ∷ b ∷ []) in
+        let t : turnOf s c ≡ answeredOf s (sensorEffect d v) = rw q at (fourth n k d e x a b c) in
+        let next = ap (λ (u : Reader). feedOf u xs (room - 2) .code) (stepped n k d (x ∷ a ∷ b ∷ []) v) in
         rw q
         (by-test (leb 2 room)
-        (λ l. simp l (rw t at (ap (λ (o : Out). o .code) (feed-on s c xs room (rw t refl) (rw t (leb-true 2 room l)))) ∙ ih v))
+        (λ l.
+        let on = feed-on s c xs room (rw t refl) (rw t (leb-true 2 room l)) in
+        simp l (rw t at (ap (λ (o : Out). o .code) on) ∙ next ∙ ih v))
         (λ l. simp l (ap (λ (o : Out). o .code) (feed-full s c xs room (rw t refl) (rw t (leb-false 2 room l))))))
     go e (Refused why) q ih =
-        let t : turnOf (recording n k d (x ∷ a ∷ b ∷ [])) c ≡ quietOf (holdOf (recording n k d (x ∷ a ∷ b ∷ [])) (codeOf (Refused why))) = rw q at (fourth n k d e x a b c) in
+        let t : turnOf s c ≡ quietOf (holdOf s (codeOf (Refused why))) = rw q at (fourth n k d e x a b c) in
         rw q (refused _ c xs room t (lasting why))
 
 -- valid records that are counted and have room are passed by
@@ -107,7 +121,8 @@ skip (suc j) n k room [] l h c v r = absurd (omega arith)
 skip (suc j) n k room (q ∷ qs) l h c v r =
     let d : k + 1 + j ≡ k + suc j = omega arith in
     let m : room - 2 - j * 2 ≡ room - suc j * 2 = omega arith in
-    simp (lt-ltb k n (omega arith), v .0 .1, le-leb 2 room (omega arith)) (skip j n (k + 1) (room - 2) qs l (omega arith) (omega arith) (v .1) (omega arith) ∙ rw (d, m))
+    simp (lt-ltb k n (omega arith), v .0 .1, le-leb 2 room (omega arith))
+    (skip j n (k + 1) (room - 2) qs l (omega arith) (omega arith) (v .1) (omega arith) ∙ rw (d, m))
 
 -- a string's length, by its complete records and the bytes over
 record Sized (l : List ℕ) : Type 0 where
@@ -165,7 +180,8 @@ judges n k l room _ (past-end p) =
 judges n k l room _ (no-room {j = j} m v h) = reach m ∙ rw (v .1, lt-leb 2 (room - j * 2) (omega (arith, m .space)))
 judges n k l room _ (in-records d) =
     let z = sized l in
-    skip (length (quads l)) n k room (quads l) (over l) (omega arith) (omega (arith, d .within)) (rw (take-all (length (quads l)) (quads l) (omega arith)) (d .before)) (d .space)
+    let valid : AllValid (take (length (quads l)) (quads l)) = rw (take-all (length (quads l)) (quads l) (omega arith)) (d .before) in
+    skip (length (quads l)) n k room (quads l) (over l) (omega arith) (omega (arith, d .within)) valid (d .space)
     ∙ rw (drop-of-length-le (quads l) {i = length (quads l)} (omega arith)) (rests n (k + length (quads l)) _ (over l) (omega (arith, d .within)))
 
 -- ---- the code given has its line
@@ -210,7 +226,9 @@ module _ (n k : ℕ) (q : Quad) (xs : List ℕ) (room : ℕ) (more : k < n) wher
   lined : {code : ℕ} (r : Record) → quadOf q ≡ r → Lines n (k + 1) xs (room - 2) code → Lines n k (ahead q xs) room (judgedCode r (cond (leb 2 room) code 7))
   unfolding codeOf
   lined (Valid e) t next =
-      cond-ind (Lines n k (ahead q xs) room) (leb 2 room) (λ two. shift (e, t) (leb-true 2 room two) next) (λ none. no-room here (e, t) (omega (arith, leb-false 2 room none)))
+      cond-ind (Lines n k (ahead q xs) room) (leb 2 room)
+      (λ two. shift (e, t) (leb-true 2 room two) next)
+      (λ none. no-room here (e, t) (omega (arith, leb-false 2 room none)))
   lined (Refused Kind) t next = kind here (kind-refused (q .kind) (q .a) (q .b) (q .c) .0 t)
   lined (Refused Operand) t next = operand here t
 

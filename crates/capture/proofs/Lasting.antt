@@ -11,7 +11,7 @@ use Rattle.capture.specs.declared.Reader.{Reader}
 use Rattle.capture.specs.Reader.{turnOf, pairOf, rangesOf, feedOf, callOf}
 use Rattle.capture.specs.Codes.{lastingOf}
 use Rattle.capture.proofs.InRange.{ranges}
-use Rattle.capture.proofs.Turns.{way, held-most, none-before}
+use Rattle.capture.proofs.Ways.{way, held-most, none-before}
 use Rattle.capture.proofs.Outcomes.{feed-stop, feed-on, feed-full}
 use Rattle.capture.proofs.Run.{cases}
 

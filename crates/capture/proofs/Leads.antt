@@ -59,7 +59,8 @@ pub onto : {input : List ℕ} {s : Reader} {from : ℕ} {a : Ahead} → Led inpu
     → (a .at < length input) × (waitsOf (a .reader) ≡ true)
 onto {input} {s} {from} {a} l e = split (eqb (a .at) (length input)) (eqb (a .reader .held) 0) refl refl e
   where
-    split : (x y : Bool) → eqb (a .at) (length input) ≡ x → eqb (a .reader .held) 0 ≡ y → (x || not y) ≡ false → (a .at < length input) × (waitsOf (a .reader) ≡ true)
+    split : (x y : Bool) → eqb (a .at) (length input) ≡ x → eqb (a .reader .held) 0 ≡ y → (x || not y) ≡ false
+        → (a .at < length input) × (waitsOf (a .reader) ≡ true)
     split true y p q n = absurd (subst T n tt)
     split false false p q n = absurd (subst T n tt)
     split false true p q n =

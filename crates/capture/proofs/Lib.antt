@@ -1,7 +1,8 @@
 pub mod Sensors
+pub mod Turns
 pub mod Outcomes
 pub mod InRange
-pub mod Turns
+pub mod Ways
 pub mod Three
 pub mod Feeds
 pub mod Records

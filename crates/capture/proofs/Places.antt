@@ -15,7 +15,7 @@ use Rattle.capture.specs.declared.Reader.{Reader}
 use Rattle.capture.specs.Reader.{Turn, Out, holdOf, quietOf, stopOf, refuseOf, joinOf, turnOf, pairOf, rangesOf, feedOf, callOf}
 use Rattle.capture.specs.Codes.{lastingOf}
 use Rattle.capture.specs.Places.{Unmoved, byteAt, takenOf, EndsBefore, Stands}
-use Rattle.capture.proofs.Turns.{Lasts, way, refused}
+use Rattle.capture.proofs.Ways.{Lasts, way, refused}
 use Rattle.capture.proofs.InRange.{ranges}
 use Rattle.capture.proofs.Outcomes.{feed-stop, feed-full, feed-on}
 use Rattle.capture.proofs.Run.{cases, held-stays}

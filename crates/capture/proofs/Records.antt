@@ -8,7 +8,7 @@ use native.Mathlib.Omega.{arith}
 use lib.Dec.{T, eqb, ltb, leb}
 use lib.ListN.{length, getD, take, drop, length-append, length-drop}
 use lib.Seq.{drop-cons, length-take-le}
-use borrow.Author.Tests.{eqb-true, eqb-false, ltb-true, ltb-false, leb-true, leb-false, lt-ltb}
+use borrow.Author.Tests.{eqb-true, eqb-false, ltb-true, ltb-false, leb-true, leb-false}
 use Rattle.laws.proofs.Choices.{and-left, and-right}
 use Rattle.device.specs.declared.Event.{Event}
 use Rattle.record.specs.declared.Record.{Record}
@@ -17,10 +17,14 @@ use Rattle.record.specs.declared.Refusal.{Refusal}
 use Rattle.record.specs.declared.Refusal.the-variants.{Kind, Operand}
 use Rattle.record.specs.Record.{decodeOf, codeOf}
 use Rattle.capture.specs.declared.Reader.{Reader}
-use Rattle.capture.specs.Sensor.{Sensor, sensorEffect}
-use Rattle.capture.specs.Reader.{quietOf, holdOf, answeredOf, judgedOf, recordOf, turnOf, rangesOf, feedOf, Out, joinOf, Meets}
-use Rattle.capture.specs.Loops.{Going, Onward, waitsOf, carryingOf, betweenOf, Took}
-use Rattle.capture.proofs.InRange.{ranges, below-limit, limit-all, turn-ranges}
+use Rattle.capture.specs.declared.Answered.{Answered}
+use Rattle.capture.specs.Sensor.{Sensor, headerLength, sensorEffect}
+use Rattle.capture.specs.Reader.{withCarried, holdOf, betweenOf, headerLengthOf, headerDone, rangesOf}
+use Rattle.capture.specs.Reader.{quietOf, answeredOf, judgedOf, turnOf, feedOf, Out, joinOf, reportOf, Meets}
+use Rattle.capture.specs.Loops.{Going, Onward, waitsOf, carryingOf, Took}
+use Rattle.capture.proofs.Sensors.{effect-devices}
+use Rattle.capture.proofs.Turns.{judged-turn}
+use Rattle.capture.proofs.InRange.{ranges, count-fits, turn-ranges}
 use Rattle.capture.proofs.Outcomes.{join-join}
 use Rattle.capture.proofs.Three.{three-ahead, three-ranges}
 use Rattle.capture.proofs.Feeds.{refused, full, paired}
@@ -29,7 +33,7 @@ use Rattle.capture.proofs.Feeds.{refused, full, paired}
 
 pub record AtFourth (s : Reader) : Type 0 where
   pub held : s .held ≡ 0
-  pub head : s .head ≡ 6
+  pub head : s .head ≡ headerLengthOf s
   pub carried : s .carried ≡ 3
   pub counted : s .done < s .count
 
@@ -37,12 +41,12 @@ pub waiting : (s : Reader) → rangesOf s ≡ true → waitsOf s ≡ true → At
 unfolding waitsOf
 waiting s r w =
     let carried : s .carried ≡ 3 = eqb-true _ _ (and-right (eqb (s .held) 0) _ w) in
-    let place : (eqb (s .head) 6 && ltb (s .done) (s .count)) ≡ true = simp carried at (ranges s r .place .1 .1 .0) in
+    let place : (headerDone s && ltb (s .done) (s .count)) ≡ true = simp carried at (ranges s r .place .carrying) in
     record {
       held = eqb-true _ _ (and-left (eqb (s .held) 0) _ w);
-      head = eqb-true _ _ (and-left (eqb (s .head) 6) _ place);
+      head = eqb-true _ _ (and-left (headerDone s) _ place);
       carried = carried;
-      counted = ltb-true _ _ (and-right (eqb (s .head) 6) _ place);
+      counted = ltb-true _ _ (and-right (headerDone s) _ place);
     }
 
 -- before that, fewer than three bytes are carried
@@ -50,7 +54,7 @@ pub not-waiting : (s : Reader) → rangesOf s ≡ true → waitsOf s ≡ false �
 unfolding waitsOf
 not-waiting s r w z =
     let other : eqb (s .carried) 3 ≡ false = simp z at w in
-    omega (arith, eqb-false (s .carried) 3 other, leb-true (s .carried) 3 (ranges s r .place .1 .0))
+    omega (arith, eqb-false (s .carried) 3 other, leb-true (s .carried) 3 (ranges s r .place .few))
 
 three-eta : (l : List ℕ) → length l ≡ 3 → getD l 0 0 ∷ getD l 1 0 ∷ getD l 2 0 ∷ [] ≡ l
 three-eta [] e = absurd (omega arith)
@@ -62,7 +66,7 @@ three-eta (a ∷ b ∷ c ∷ d ∷ l) e = absurd (omega arith)
 -- such a state, told by its parts
 pub itself : (s : Reader) → AtFourth s → length (s .bytes) ≡ 3
     → carryingOf s (s .done) (s .device) (getD (s .bytes) 0 0) (getD (s .bytes) 1 0) (getD (s .bytes) 2 0) ≡ s
-itself s w e = rw (three-eta (s .bytes) e, w .carried)
+itself s w e = λ i. withCarried s (sym (w .carried) i) (three-eta (s .bytes) e i)
 
 -- ---- that byte
 
@@ -71,8 +75,7 @@ module _ (s : Reader) (w : AtFourth s) (c : ℕ) where
   recordAt = decodeOf (getD (s .bytes) 0 0) (getD (s .bytes) 1 0) (getD (s .bytes) 2 0) c
 
   judged : turnOf s c ≡ judgedOf s recordAt
-  unfolding turnOf recordOf
-  judged = simp (w .held, w .head, w .carried, lt-ltb (s .done) (s .count) (w .counted))
+  judged = judged-turn s c (w .held) (w .head) (w .counted) (omega (arith, w .carried))
 
   refuses : (why : Refusal) → recordAt ≡ Refused why → turnOf s c ≡ quietOf (holdOf s (codeOf (Refused why)))
   refuses why q = judged ∙ ap (judgedOf s) q
@@ -85,7 +88,8 @@ unfolding codeOf
 lasting Kind z = omega arith
 lasting Operand z = omega arith
 
-module _ {o : Out} {input entry answers : List ℕ} {s : Reader} {at written : ℕ} (w : AtFourth s) (g : Going o input entry answers s at written) (l : at < length input) where
+module _ {o : Out} {input entry answers : List ℕ} {s : Reader} {at written : ℕ}
+    (w : AtFourth s) (g : Going o input entry answers s at written) (l : at < length input) where
   abbrev byte : ℕ
   byte = getD input at 0
 
@@ -114,10 +118,12 @@ three-bytes l at h =
     let three : at + 3 ≡ suc (suc (suc at)) = omega arith in
     rw (one, two, three)
     (drop-cons l at 0 (omega arith)
-    ∙ ap (λ (r : List ℕ). getD l at 0 ∷ r) (drop-cons l (suc at) 0 (omega arith) ∙ ap (λ (r : List ℕ). getD l (suc at) 0 ∷ r) (drop-cons l (suc (suc at)) 0 (omega arith))))
+    ∙ ap (λ (r : List ℕ). getD l at 0 ∷ r)
+    (drop-cons l (suc at) 0 (omega arith) ∙ ap (λ (r : List ℕ). getD l (suc at) 0 ∷ r) (drop-cons l (suc (suc at)) 0 (omega arith))))
 
-pub next-three : {o : Out} {input entry answers : List ℕ} (s : Reader) (done : ℕ) (device : Sensor) {at written : ℕ} → ((i : ℕ) → getD input i 0 < 256)
-    → s .held ≡ 0 → s .head ≡ 6 → done < s .count → at + 4 ≤ length input → Going o input entry answers (betweenOf s done device) at written
+pub next-three : {o : Out} {input entry answers : List ℕ} (s : Reader) (done : ℕ) (device : Sensor) {at written : ℕ}
+    → ((i : ℕ) → getD input i 0 < 256) → s .held ≡ 0 → s .head ≡ headerLength device → done < s .count → at + 4 ≤ length input
+    → Going o input entry answers (betweenOf s done device) at written
     → Going o input entry answers (carryingOf s done device (getD input at 0) (getD input (at + 1) 0) (getD input (at + 2) 0)) (at + 3) written
 next-three {o} {input} {entry} {answers} s done device {at} {written} small z h d l g =
     let a = getD input at 0 in
@@ -132,7 +138,8 @@ next-three {o} {input} {entry} {answers} s done device {at} {written} small z h 
       rest = g .rest;
       same =
           g .same
-          ∙ ap (λ (l : List ℕ). joinOf at (take written answers) (feedOf (betweenOf s done device) l (length entry - written))) (three-bytes input at (omega arith))
+          ∙ ap (λ (l : List ℕ). joinOf at (take written answers) (feedOf (betweenOf s done device) l (length entry - written)))
+          (three-bytes input at (omega arith))
           ∙ ap (joinOf at (take written answers)) (three-ahead s done device z h d a b c (drop (at + 3) input) (length entry - written))
           ∙ join-join at 3 (take written answers) [] rest
           ∙ ap (λ (l : List ℕ). joinOf (at + 3) l rest) (append-nil (take written answers));
@@ -140,21 +147,36 @@ next-three {o} {input} {entry} {answers} s done device {at} {written} small z h 
 
 -- ---- the loop
 
--- what its test says where it is not met
-pub goes-on : (count done input at room written : ℕ) → (leb count done || ltb (input - at) 4 || ltb (room - written) 2) ≡ false
-    → (done < count) × ((4 ≤ input - at) × (2 ≤ room - written))
-goes-on count done input at room written e = split (leb count done) (ltb (input - at) 4) (ltb (room - written) 2) refl refl refl e
+-- where it goes on: another record is counted, its four bytes are there, and so is room
+pub record Next (count done input at answers written : ℕ) : Type 0 where
+  pub counted : done + 1 < count
+  pub bytes : at + 1 + 4 ≤ input
+  pub room : written + 2 + 2 ≤ answers
+  pub fits : input < 2 ^ 64
+
+-- its test says so
+pub goes-on : {count done input at room written : ℕ} → input < 2 ^ 64
+    → (leb count (done + 1) || ltb (input - (at + 1)) 4 || ltb (room - (written + 2)) 2) ≡ false → Next count done input at room written
+goes-on {count} {done} {input} {at} {room} {written} f e =
+    split (leb count (done + 1)) (ltb (input - (at + 1)) 4) (ltb (room - (written + 2)) 2) refl refl refl e
   where
-    split : (x y z : Bool) → leb count done ≡ x → ltb (input - at) 4 ≡ y → ltb (room - written) 2 ≡ z → (x || y || z) ≡ false
-        → (done < count) × ((4 ≤ input - at) × (2 ≤ room - written))
+    split : (x y z : Bool) → leb count (done + 1) ≡ x → ltb (input - (at + 1)) 4 ≡ y → ltb (room - (written + 2)) 2 ≡ z
+        → (x || y || z) ≡ false → Next count done input at room written
     split true y z a b c n = absurd (subst T n tt)
     split false true z a b c n = absurd (subst T n tt)
     split false false true a b c n = absurd (subst T n tt)
-    split false false false a b c n = (leb-false count done a, (ltb-false (input - at) 4 b, ltb-false (room - written) 2 c))
+    split false false false a b c n = record {
+      counted = leb-false count (done + 1) a;
+      bytes = omega (arith, ltb-false (input - (at + 1)) 4 b);
+      room = omega (arith, ltb-false (room - (written + 2)) 2 c);
+      fits = f;
+    }
 
 -- what is known at its head
-pub record Running (s : Reader) (input before : List ℕ) (from start : ℕ) (answers : List ℕ) (kind a b : ℕ) (device : Sensor) (done at written : ℕ) : Type 0 where
+pub record Running (s : Reader) (input before : List ℕ) (from start : ℕ)
+    (answers : List ℕ) (kind a b : ℕ) (device : Sensor) (done at written : ℕ) : Type 0 where
   pub waits : AtFourth s
+  pub complete : s .head ≡ headerLength device
   pub onward : Onward input before s from start answers (carryingOf s done device kind a b) at written
   pub forward : from ≤ at
   pub inside : at < length input
@@ -172,6 +194,7 @@ run-start s input before from start r w e l n f h =
     let k = waiting s r w in
     record {
       waits = k;
+      complete = k .head;
       onward = λ o entry g. rw (itself s k e) g;
       forward = omega arith;
       inside = l;
@@ -180,8 +203,17 @@ run-start s input before from start r w e l n f h =
       long = refl;
       input-fits = f;
       answers-fit = h;
-      count-fits = omega (arith, below-limit s r, limit-all (s .head));
+      count-fits = count-fits s r;
     }
+
+-- once a record is stepped and its pair stored: as it leaves, and as it goes on
+pub record Stepped (s : Reader) (input before : List ℕ) (from start : ℕ)
+    (answers after : List ℕ) (device : Sensor) (done at written : ℕ) : Type 0 where
+  pub long : length after ≡ length answers
+  pub left : Took input before s from start after (reportOf 0 (at + 1) (written + 2) (betweenOf s (done + 1) device))
+  pub again : Next (s .count) done (length input) at (length after) written
+      → Running s input before from start after (getD input (at + 1) 0) (getD input (at + 1 + 1) 0) (getD input (at + 1 + 2) 0)
+      device (done + 1) (at + 1 + 3) (written + 2)
 
 module _ {s : Reader} {input before : List ℕ} {from start : ℕ} {answers : List ℕ} {kind a b : ℕ} {device : Sensor} {done at written : ℕ}
     (r : Running s input before from start answers kind a b device done at written) where
@@ -189,10 +221,10 @@ module _ {s : Reader} {input before : List ℕ} {from start : ℕ} {answers : Li
   state = carryingOf s done device kind a b
 
   here : AtFourth state
-  here = record { held = r .waits .held; head = r .waits .head; carried = refl; counted = r .counted }
+  here = record { held = r .waits .held; head = r .complete; carried = refl; counted = r .counted }
 
   pub run-refused : (why : Refusal) → decodeOf kind a b (getD input at 0) ≡ Refused why
-      → Took input before s from start answers (record { code = codeOf (Refused why); consumed = at; written = written; reader = holdOf state (codeOf (Refused why)) })
+      → Took input before s from start answers (reportOf (codeOf (Refused why)) at written (holdOf state (codeOf (Refused why))))
   run-refused why q = record {
     onward = λ z. absurd (lasting why z);
     forward = λ z. absurd (lasting why z);
@@ -208,29 +240,36 @@ module _ {s : Reader} {input before : List ℕ} {from start : ℕ} {answers : Li
     done-one : Onward input before s from start after (betweenOf s (done + 1) next) (at + 1) (written + 2)
     done-one o entry g = stepped here (r .onward o entry g) (r .inside) e (small at) q (omega (arith, r .room)) laid
 
-    pub run-left : Took input before s from start after (record { code = 0; consumed = at + 1; written = written + 2; reader = betweenOf s (done + 1) next })
-    run-left = record {
-      onward = λ _. done-one;
-      forward = λ _. omega (arith, r .forward);
-      ends = λ n. absurd (n refl);
-    }
+    finished : s .head ≡ headerLength next
+    finished = omega (arith, r .complete, effect-devices device e)
 
-    pub run-again : done + 1 < s .count → at + 1 + 4 ≤ length input → written + 2 + 2 ≤ length after → length after ≡ length answers
-        → Running s input before from start after (getD input (at + 1) 0) (getD input (at + 1 + 1) 0) (getD input (at + 1 + 2) 0) next (done + 1) (at + 1 + 3) (written + 2)
-    run-again d l n k = record {
-      waits = r .waits;
-      onward = λ o entry g. next-three s (done + 1) next small (r .waits .held) (r .waits .head) d l (done-one o entry g);
-      forward = omega (arith, r .forward);
-      inside = omega arith;
-      counted = d;
-      room = n;
-      long = k ∙ r .long;
-      input-fits = r .input-fits;
-      answers-fit = r .answers-fit;
-      count-fits = r .count-fits;
-    }
-
-    pub same-room : length after ≡ length answers
+    same-room : length after ≡ length answers
     same-room =
         let w : length (take written answers) ≡ written = length-take-le written answers (omega (arith, r .room)) in
         rw laid (simp (length-append, length-drop, w) (omega (arith, r .room)))
+
+    run-stepped : Stepped s input before from start answers after next done at written
+    run-stepped = record {
+      long = same-room;
+      left = record { onward = λ _. done-one; forward = λ _. omega (arith, r .forward); ends = λ n. absurd (n refl) };
+      again = λ n. record {
+        waits = r .waits;
+        complete = finished;
+        onward = λ o entry g. next-three s (done + 1) next small (r .waits .held) finished (n .counted) (n .bytes) (done-one o entry g);
+        forward = omega (arith, r .forward);
+        inside = omega (arith, n .bytes);
+        counted = n .counted;
+        room = n .room;
+        long = same-room ∙ r .long;
+        input-fits = r .input-fits;
+        answers-fit = r .answers-fit;
+        count-fits = r .count-fits;
+      };
+    }
+
+  -- the same of the effect's outcome, under any name
+  pub run-effect : ((i : ℕ) → getD input i 0 < 256) → (e : Event) → decodeOf kind a b (getD input at 0) ≡ Valid e
+      → {o : Answered} → o ≡ sensorEffect device e
+      → {after : List ℕ} → after ≡ take written answers ++ (o .first ∷ o .second ∷ drop 2 (drop written answers))
+      → Stepped s input before from start answers after (o .sensor) done at written
+  run-effect small e q f laid = rw f (run-stepped small e q (rw f at laid))

@@ -6,21 +6,16 @@ use mathlib.Core.List.{List, [], _∷_}
 use mathlib.Core.Bool.{true}
 use native.Mathlib.Omega.{arith}
 use native.Mathlib.Nat.{sub-zero}
-use borrow.Author.Tests.{lt-ltb}
 use Rattle.capture.specs.declared.Reader.{Reader}
-use Rattle.capture.specs.Sensor.{Sensor}
-use Rattle.capture.specs.Reader.{quietOf, carryOf, turnOf, feedOf, joinOf, rangesOf}
-use Rattle.capture.specs.Loops.{betweenOf, carryingOf}
+use Rattle.capture.specs.Sensor.{Sensor, headerLength}
+use Rattle.capture.specs.Reader.{betweenOf, quietOf, carryOf, turnOf, feedOf, joinOf, rangesOf}
+use Rattle.capture.specs.Loops.{carryingOf}
+use Rattle.capture.proofs.Turns.{carried-turn}
 use Rattle.capture.proofs.Outcomes.{join-join, feed-on}
 use Rattle.capture.proofs.InRange.{turn-ranges}
 
--- in the records, with a record counted, a byte before the fourth is carried
-pub quiet-turn : (s : Reader) (b : ℕ) → s .held ≡ 0 → s .head ≡ 6 → s .done < s .count → s .carried < 3 → turnOf s b ≡ quietOf (carryOf s b)
-unfolding turnOf
-quiet-turn s b z h d l = simp (z, h, lt-ltb (s .done) (s .count) d, lt-ltb (s .carried) 3 l)
-
 -- between two records, one more counted
-module _ (s : Reader) (done : ℕ) (device : Sensor) (z : s .held ≡ 0) (h : s .head ≡ 6) (d : done < s .count) (a b c : ℕ) where
+module _ (s : Reader) (done : ℕ) (device : Sensor) (z : s .held ≡ 0) (h : s .head ≡ headerLength device) (d : done < s .count) (a b c : ℕ) where
   abbrev none : Reader
   none = betweenOf s done device
 
@@ -34,16 +29,17 @@ module _ (s : Reader) (done : ℕ) (device : Sensor) (z : s .held ≡ 0) (h : s 
   three = carryingOf s done device a b c
 
   first : turnOf none a ≡ quietOf one
-  first = quiet-turn none a z h d (omega arith)
+  first = carried-turn none a z h d (omega arith)
 
   second : turnOf one b ≡ quietOf two
-  second = quiet-turn one b z h d (omega arith)
+  second = carried-turn one b z h d (omega arith)
 
   third : turnOf two c ≡ quietOf three
-  third = quiet-turn two c z h d (omega arith)
+  third = carried-turn two c z h d (omega arith)
 
   -- a byte that is taken with no answer
-  taken : (t u : Reader) (x : ℕ) (xs : List ℕ) (room : ℕ) → turnOf t x ≡ quietOf u → u .held ≡ 0 → feedOf t (x ∷ xs) room ≡ joinOf 1 [] (feedOf u xs room)
+  taken : (t u : Reader) (x : ℕ) (xs : List ℕ) (room : ℕ) → turnOf t x ≡ quietOf u → u .held ≡ 0
+      → feedOf t (x ∷ xs) room ≡ joinOf 1 [] (feedOf u xs room)
   taken t u x xs room e n = simp (e, sub-zero) at (feed-on t x xs room (rw e n) (rw e (omega arith)))
 
   pub three-ahead : (xs : List ℕ) (room : ℕ) → feedOf none (a ∷ b ∷ c ∷ xs) room ≡ joinOf 3 [] (feedOf three xs room)

@@ -1,87 +1,93 @@
--- What one byte does to a state, in three ways: a state that holds a lasting code stays; a byte is refused, with a lasting code, which the
--- state then holds; or a byte is taken. Nothing is asked of the byte or the state.
+-- What one byte does to a state, a law for each way of it, by where the state stands.
 -- Assumes nothing.
-use Prim.Native.Nat.{ℕ, _≤_}
-use mathlib.Core.Path.{_≡_, refl}
-use lib.ListN.{getD}
-use lib.Dec.{ltb, eqb}
+use Prim.Native.Nat.{ℕ, _≤_, _<_}
+use mathlib.Core.Path.{_≡_, ap, _∙_}
+use mathlib.Core.Bool.{true, false}
 use native.Mathlib.Omega.{arith}
-use borrow.Author.Tests.{eqb-true, eqb-false}
-use Rattle.laws.proofs.Choices.{cond-ind}
+use lib.Dec.{eqb}
+use lib.ListN.{getD}
+use borrow.Author.Tests.{eq-eqb, ne-eqb, lt-ltb, le-ltb}
 use Rattle.device.specs.Ranges.{variantOf}
-use Rattle.record.specs.declared.Record.{Record}
-use Rattle.record.specs.declared.Record.the-variants.{Valid, Refused}
-use Rattle.record.specs.declared.Refusal.the-variants.{Kind, Operand}
-use Rattle.record.specs.Record.{decodeOf, codeOf}
+use Rattle.record.specs.Record.{decodeOf}
 use Rattle.capture.specs.declared.Reader.{Reader}
-use Rattle.capture.specs.Sensor.{headerLength}
-use Rattle.capture.specs.Reader.{Turn, quietOf, holdOf, headOf, judgedOf, recordOf, turnOf}
+use Rattle.capture.specs.Sensor.{countPlace}
+use Rattle.capture.specs.Reader.{headerLengthOf, holdOf, quietOf, openedOf, variantTakenOf, countedOf, carryOf, judgedOf, headOf, recordOf, turnOf}
 
--- a lasting code
-pub record Lasts (code : ℕ) : Type 0 where
-  pub least : 1 ≤ code
-  pub most : code ≤ 5
+module _ (s : Reader) (b : ℕ) where
+  -- a state that holds a code stays
+  pub held-turn : (s .held ≡ 0 → ⊥) → turnOf s b ≡ quietOf s
+  unfolding turnOf
+  held-turn n = simp (ne-eqb (s .held) 0 n)
 
-pub data Way (s : Reader) : Turn → Type 0 where
-  stays : (s .held ≡ 0 → ⊥) → Way s (quietOf s)
-  refuses : (code : ℕ) → s .held ≡ 0 → Lasts code → Way s (quietOf (holdOf s code))
-  takes : {t : Turn} → s .held ≡ 0 → t .reader .held ≡ 0 → Way s t
+  -- ---- a byte of the header
 
-lasts : {code : ℕ} → 1 ≤ code → code ≤ 5 → Lasts code
-lasts least most = record { least = least; most = most }
+  -- the device count
+  module _ (z : s .head ≡ 0) where
+    pub opened-head : eqb b 1 ≡ true → headOf s b ≡ openedOf s
+    unfolding headOf
+    opened-head e = simp (eq-eqb (s .head) 0 z, e)
 
-module _ (s : Reader) (b : ℕ) (none : s .held ≡ 0) where
-  OfHeader : Reader → Type 0
-  OfHeader t = Way s (quietOf t)
+    pub other-count-head : eqb b 1 ≡ false → headOf s b ≡ holdOf s 1
+    unfolding headOf
+    other-count-head e = simp (eq-eqb (s .head) 0 z, e)
 
-  head-way : Way s (quietOf (headOf s b))
-  unfolding headOf OfHeader
-  head-way =
-      cond-ind OfHeader (eqb (s .head) 0)
-      (λ _. cond-ind OfHeader (eqb b 1) (λ _. takes none none) (λ _. refuses 1 none (lasts (omega arith) (omega arith))))
-      (λ _. cond-ind OfHeader (eqb (s .head) 1)
-      (λ _. cond-ind OfHeader (variantOf b) (λ _. takes none none) (λ _. refuses 2 none (lasts (omega arith) (omega arith))))
-      (λ _. takes none none))
+  module _ (n : s .head ≡ 0 → ⊥) where
+    -- a variant
+    module _ (l : s .head < countPlace (s .device)) where
+      pub variant-head : variantOf b ≡ true → headOf s b ≡ variantTakenOf s b
+      unfolding headOf
+      variant-head e = simp (ne-eqb (s .head) 0 n, lt-ltb (s .head) (countPlace (s .device)) l, e)
 
-  judged-way : (d : Record) → Way s (judgedOf s d)
-  unfolding codeOf
-  judged-way (Valid e) = takes none none
-  judged-way (Refused Kind) = refuses 3 none (lasts (omega arith) (omega arith))
-  judged-way (Refused Operand) = refuses 4 none (lasts (omega arith) (omega arith))
+      pub other-variant-head : variantOf b ≡ false → headOf s b ≡ holdOf s 2
+      unfolding headOf
+      other-variant-head e = simp (ne-eqb (s .head) 0 n, lt-ltb (s .head) (countPlace (s .device)) l, e)
 
-pub way : (s : Reader) (b : ℕ) → Way s (turnOf s b)
-unfolding turnOf recordOf
-way s b =
-    cond-ind (Way s) (eqb (s .held) 0)
-    (λ z. let none = eqb-true (s .held) 0 z in
-    cond-ind (Way s) (ltb (s .head) headerLength) (λ _. head-way s b none)
-    (λ _. cond-ind (Way s) (ltb (s .done) (s .count))
-    (λ _. cond-ind (Way s) (ltb (s .carried) 3) (λ _. takes none none)
-    (λ _. judged-way s b none (decodeOf (getD (s .bytes) 0 0) (getD (s .bytes) 1 0) (getD (s .bytes) 2 0) b)))
-    (λ _. refuses 5 none (lasts (omega arith) (omega arith)))))
-    (λ n. stays (eqb-false (s .held) 0 n))
+    -- a byte of the record count
+    pub counted-head : countPlace (s .device) ≤ s .head → headOf s b ≡ countedOf s b
+    unfolding headOf
+    counted-head l = simp (ne-eqb (s .head) 0 n, le-ltb (s .head) (countPlace (s .device)) l)
 
--- ---- what follows for any turn of a state
+  -- ---- where no code is held
 
--- a code that is held is at most 5
-pub held-most : {s : Reader} {t : Turn} → Way s t → s .held ≤ 5 → t .reader .held ≤ 5
-held-most (stays n) h = h
-held-most (refuses code z l) h = l .most
-held-most (takes z e) h = omega arith
+  module _ (free : s .held ≡ 0) where
+    pub head-turn : s .head < headerLengthOf s → turnOf s b ≡ quietOf (headOf s b)
+    unfolding turnOf
+    head-turn l = simp (eq-eqb (s .held) 0 free, lt-ltb (s .head) (headerLengthOf s) l)
 
--- none is held after a byte only if none was before it
-pub none-before : {s : Reader} {t : Turn} → Way s t → t .reader .held ≡ 0 → s .held ≡ 0
-none-before (stays n) e = e
-none-before (refuses code z l) e = z
-none-before (takes z e) _ = z
+    pub opened-turn : s .head ≡ 0 → eqb b 1 ≡ true → turnOf s b ≡ quietOf (openedOf s)
+    opened-turn z e = head-turn (omega arith) ∙ ap quietOf (opened-head z e)
 
--- a byte that is refused: its turn is silent, and leaves the state as it was, holding a lasting code
-pub record Refusal (s : Reader) (t : Turn) : Type 0 where
-  pub code : ℕ
-  pub lasts : Lasts code
-  pub turn : t ≡ quietOf (holdOf s code)
+    pub other-count-turn : s .head ≡ 0 → eqb b 1 ≡ false → turnOf s b ≡ quietOf (holdOf s 1)
+    other-count-turn z e = head-turn (omega arith) ∙ ap quietOf (other-count-head z e)
 
-pub refused : {s : Reader} {t : Turn} → Way s t → s .held ≡ 0 → (t .reader .held ≡ 0 → ⊥) → Refusal s t
-refused (stays n) z m = absurd (n z)
-refused (refuses code z l) _ m = record { code = code; lasts = l; turn = refl }
-refused (takes z e) _ m = absurd (m e)
+    pub variant-turn : 0 < s .head → s .head < countPlace (s .device) → variantOf b ≡ true → turnOf s b ≡ quietOf (variantTakenOf s b)
+    variant-turn n l e = head-turn (omega arith) ∙ ap quietOf (variant-head (λ z. omega arith) l e)
+
+    pub other-variant-turn : 0 < s .head → s .head < countPlace (s .device) → variantOf b ≡ false → turnOf s b ≡ quietOf (holdOf s 2)
+    other-variant-turn n l e = head-turn (omega arith) ∙ ap quietOf (other-variant-head (λ z. omega arith) l e)
+
+    pub counted-turn : countPlace (s .device) ≤ s .head → s .head < headerLengthOf s → turnOf s b ≡ quietOf (countedOf s b)
+    counted-turn l m = head-turn m ∙ ap quietOf (counted-head (λ z. omega arith) l)
+
+    -- ---- a byte of a record
+
+    module _ (h : s .head ≡ headerLengthOf s) where
+      pub carried-turn : s .done < s .count → s .carried < 3 → turnOf s b ≡ quietOf (carryOf s b)
+      unfolding turnOf
+      carried-turn d l =
+          let behind = le-ltb (s .head) (headerLengthOf s) (omega arith) in
+          simp (eq-eqb (s .held) 0 free, behind, lt-ltb (s .done) (s .count) d, lt-ltb (s .carried) 3 l)
+
+      pub judged-turn : s .done < s .count → 3 ≤ s .carried
+          → turnOf s b ≡ judgedOf s (decodeOf (getD (s .bytes) 0 0) (getD (s .bytes) 1 0) (getD (s .bytes) 2 0) b)
+      unfolding turnOf recordOf
+      judged-turn d l =
+          let behind = le-ltb (s .head) (headerLengthOf s) (omega arith) in
+          simp (eq-eqb (s .held) 0 free, behind, lt-ltb (s .done) (s .count) d, le-ltb (s .carried) 3 l)
+
+      -- past the last counted one
+      pub past-turn : s .count ≤ s .done → turnOf s b ≡ quietOf (holdOf s 5)
+      unfolding turnOf
+      past-turn d =
+          let behind = le-ltb (s .head) (headerLengthOf s) (omega arith) in
+          simp (eq-eqb (s .held) 0 free, behind, le-ltb (s .done) (s .count) d)

@@ -6,14 +6,14 @@ use mathlib.Core.Path.{_≡_}
 use mathlib.Core.List.{List, [], _∷_, _++_}
 use mathlib.Core.Bool.{Bool, true, false, cond, _&&_}
 use lib.ListN.{length, take, drop}
-use lib.Dec.{leb, eqb}
+use lib.Dec.{ltb, leb, eqb}
 use Rattle.device.specs.declared.Event.{Event}
 use Rattle.device.specs.Ranges.{variantOf}
 use Rattle.record.specs.declared.Record.the-variants.{Valid, Refused}
 use Rattle.record.specs.declared.Refusal.the-variants.{Operand}
 use Rattle.capture.specs.declared.Reader.{Reader}
-use Rattle.capture.specs.Sensor.{headerLength}
-use Rattle.capture.specs.Reader.{rangesOf}
+use Rattle.capture.specs.Sensor.{countPlace}
+use Rattle.capture.specs.Reader.{headerLengthOf, rangesOf}
 use Rattle.capture.specs.Whole.{Quad, quads, quadOf}
 
 -- ---- the header that is still ahead
@@ -43,8 +43,8 @@ countHeader (n ∷ xs) = cond (eqb n 1) (variantHeader xs) badCount
 unfoldable pub headerAhead : Reader → List ℕ → Header
 headerAhead s xs =
     cond (eqb (s .head) 0) (countHeader xs)
-    (cond (eqb (s .head) 1) (variantHeader xs)
-    (numberHeader (headerLength - s .head) (s .count) xs))
+    (cond (ltb (s .head) (countPlace (s .device))) (variantHeader xs)
+    (numberHeader (headerLengthOf s - s .head) (s .count) xs))
 
 -- ---- the records that are still ahead
 
@@ -135,6 +135,6 @@ pub data Finishes (s : Reader) : ℕ → Type 0 where
   -- a lasting code already held
   held : rangesOf s ≡ true → (s .held ≡ 0 → ⊥) → Finishes s (s .held)
   -- 6: the capture is not at its counted end
-  before-end : Free s → (s .head ≡ headerLength → s .done ≡ s .count → ⊥) → Finishes s 6
+  before-end : Free s → (s .head ≡ headerLengthOf s → s .done ≡ s .count → ⊥) → Finishes s 6
   -- 0: it is
-  at-end : Free s → s .head ≡ headerLength → s .done ≡ s .count → Finishes s 0
+  at-end : Free s → s .head ≡ headerLengthOf s → s .done ≡ s .count → Finishes s 0

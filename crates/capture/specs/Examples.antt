@@ -6,8 +6,8 @@ use mathlib.Core.Bool.{Bool, true, false}
 use mathlib.Core.List.{List, [], _∷_, map}
 use Rattle.device.specs.Bus.{poweredOf}
 use Rattle.capture.specs.declared.Reader.{Reader}
-use Rattle.capture.specs.Reader.{Out, freshOf, rangesOf, callOf, finishOf}
-use Rattle.capture.specs.Whole.{Whole, wholeOf}
+use Rattle.capture.specs.Reader.{Out, freshOf, withDone, withCarried, holdOf, rangesOf, callOf, finishOf}
+use Rattle.capture.specs.Whole.{Whole, heading, wholeOf}
 use Rattle.capture.specs.Opened.{captureOpened}
 
 -- what a delegate can check by hand of an outcome: all but the device
@@ -168,7 +168,7 @@ calls = refl
 -- a state whose device is of this variant, and as after power-on
 abbrev at : ℕ → ℕ → ℕ → ℕ → List ℕ → ℕ → ℕ → Reader
 at head count done carried bytes held variant =
-    record { head = head; count = count; done = done; carried = carried; bytes = bytes; held = held; device = poweredOf variant }
+    holdOf (withCarried (withDone (heading head count (poweredOf variant)) done) carried bytes) held
 
 pub record Ended : Type 0 where
   pub reader : Reader

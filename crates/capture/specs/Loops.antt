@@ -10,7 +10,7 @@ use Rattle.capture.specs.declared.Reader.{Reader}
 use Rattle.capture.specs.declared.Ahead.{Ahead}
 use Rattle.capture.specs.declared.Fed.{Fed}
 use Rattle.capture.specs.Sensor.{Sensor}
-use Rattle.capture.specs.Reader.{noBytes, rangesOf, Out, joinOf, feedOf, Meets}
+use Rattle.capture.specs.Reader.{withDone, withCarried, withDevice, rangesOf, Out, joinOf, feedOf, Meets}
 
 -- the call's outcome o is what has been done, and then that of the rest
 pub record Going (o : Out) (input entry answers : List ℕ) (s : Reader) (at written : ℕ) : Type 0 where
@@ -30,13 +30,9 @@ Onward input before s at written after s′ at′ written′ =
 unfoldable pub waitsOf : Reader → Bool
 waitsOf s = eqb (s .held) 0 && eqb (s .carried) 3
 
--- so many records done, the device as it is then, and a record's first three bytes carried, or none
+-- so many records done with this device, and a record's first three bytes carried
 abbrev pub carryingOf : Reader → ℕ → Sensor → ℕ → ℕ → ℕ → Reader
-carryingOf s done device kind a b =
-    record { head = s .head; count = s .count; done = done; carried = 3; bytes = kind ∷ a ∷ b ∷ []; held = s .held; device = device }
-
-abbrev pub betweenOf : Reader → ℕ → Sensor → Reader
-betweenOf s done device = record { head = s .head; count = s .count; done = done; carried = 0; bytes = noBytes; held = s .held; device = device }
+carryingOf s done sensor kind a b = withCarried (withDone (withDevice s sensor) done) 3 (kind ∷ a ∷ b ∷ [])
 
 -- bytes that complete no record are taken: up to the end, a refused byte, or one that completes a record
 pub record Led (input : List ℕ) (s : Reader) (from : ℕ) (a : Ahead) : Type 0 where
@@ -54,4 +50,5 @@ pub record Took (input before : List ℕ) (s : Reader) (from start : ℕ) (after
 -- no room for a record that c completes
 abbrev pub Full : Reader → ℕ → ℕ → ℕ → Fed → Type 0
 Full s c at written r =
-    (o : Out) (input entry answers : List ℕ) → Going o input entry answers s at written → at < length input → getD input at 0 ≡ c → length answers - written < 2 → Meets o r entry answers
+    (o : Out) (input entry answers : List ℕ) → Going o input entry answers s at written → at < length input → getD input at 0 ≡ c
+    → length answers - written < 2 → Meets o r entry answers

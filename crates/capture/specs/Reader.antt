@@ -12,7 +12,8 @@ use Rattle.record.specs.declared.Record.the-variants.{Valid, Refused}
 use Rattle.record.specs.Record.{decodeOf, codeOf}
 use Rattle.capture.specs.declared.Reader.{Reader}
 use Rattle.capture.specs.declared.Fed.{Fed}
-use Rattle.capture.specs.Sensor.{Answered, zeroSensor, sensorRanges, sensorPowered, sensorEffect, headerLength}
+use Rattle.capture.specs.declared.Answered.{Answered}
+use Rattle.capture.specs.Sensor.{Sensor, zeroSensor, countPlace, headerLength, sensorRanges, sensorPowered, sensorEffect}
 
 -- ---- the state
 
@@ -23,32 +24,81 @@ noBytes = 0 ∷ 0 ∷ 0 ∷ []
 abbrev pub freshOf : Reader
 freshOf = record { head = 0; count = 0; done = 0; carried = 0; bytes = noBytes; held = 0; device = zeroSensor }
 
--- the same state, holding a lasting code
+-- ---- the same state with one thing changed
+
+-- so many header bytes taken
+abbrev pub withHead : Reader → ℕ → Reader
+withHead s head =
+    record { head = head; count = s .count; done = s .done; carried = s .carried; bytes = s .bytes; held = s .held; device = s .device }
+
+-- this record count
+abbrev pub withCount : Reader → ℕ → Reader
+withCount s count =
+    record { head = s .head; count = count; done = s .done; carried = s .carried; bytes = s .bytes; held = s .held; device = s .device }
+
+-- so many records done
+abbrev pub withDone : Reader → ℕ → Reader
+withDone s done =
+    record { head = s .head; count = s .count; done = done; carried = s .carried; bytes = s .bytes; held = s .held; device = s .device }
+
+-- so many bytes of a record carried, and their three places
+abbrev pub withCarried : Reader → ℕ → List ℕ → Reader
+withCarried s carried bytes =
+    record { head = s .head; count = s .count; done = s .done; carried = carried; bytes = bytes; held = s .held; device = s .device }
+
+-- holding a lasting code
 abbrev pub holdOf : Reader → ℕ → Reader
-holdOf s code = record { head = s .head; count = s .count; done = s .done; carried = s .carried; bytes = s .bytes; held = code; device = s .device }
+holdOf s code =
+    record { head = s .head; count = s .count; done = s .done; carried = s .carried; bytes = s .bytes; held = code; device = s .device }
+
+-- this device
+abbrev pub withDevice : Reader → Sensor → Reader
+withDevice s sensor =
+    record { head = s .head; count = s .count; done = s .done; carried = s .carried; bytes = s .bytes; held = s .held; device = sensor }
+
+-- so many records done with this device, and no byte carried
+abbrev pub betweenOf : Reader → ℕ → Sensor → Reader
+betweenOf s done sensor = withCarried (withDone (withDevice s sensor) done) 0 noBytes
+
+-- ---- the header
+
+abbrev pub headerLengthOf : Reader → ℕ
+headerLengthOf s = headerLength (s .device)
+
+-- header bytes are still to come
+abbrev pub inHeader : Reader → Bool
+inHeader s = ltb (s .head) (headerLengthOf s)
+
+-- the header is complete
+abbrev pub headerDone : Reader → Bool
+headerDone s = eqb (s .head) (headerLengthOf s)
+
+-- bytes of the record count taken
+abbrev pub countTaken : Reader → ℕ
+countTaken s = s .head - countPlace (s .device)
 
 -- ---- its ranges
 
--- 256 to the power of the count bytes taken, of which the first two header bytes are none
+-- 256 to the power of the count bytes taken, which are at most four
 abbrev pub limitOf : ℕ → ℕ
-limitOf head = 256 ^ (min head headerLength - 2)
+limitOf taken = 256 ^ min taken 4
 
 abbrev pub placeTests : Reader → List Bool
 placeTests s =
-    -- header bytes taken 0 to 6
-    leb (s .head) headerLength ∷
+    -- header bytes taken 0 to 6, the header's length
+    leb (s .head) (headerLengthOf s) ∷
     -- record bytes carried 0 to 3, none before the header is complete or once all records are done
     leb (s .carried) 3 ∷
-    (eqb (s .carried) 0 || (eqb (s .head) headerLength && ltb (s .done) (s .count))) ∷
+    (eqb (s .carried) 0 || (headerDone s && ltb (s .done) (s .count))) ∷
     -- unused places 0
     (ltb 0 (s .carried) || eqb (getD (s .bytes) 0 0) 0) ∷
     (ltb 1 (s .carried) || eqb (getD (s .bytes) 1 0) 0) ∷
     (ltb 2 (s .carried) || eqb (getD (s .bytes) 2 0) 0) ∷
     -- the partial record count
-    ltb (s .count) (limitOf (s .head)) ∷
+    ltb (s .count) (limitOf (countTaken s)) ∷
     -- records done at most the count, and 0 before the header is complete
     leb (s .done) (s .count) ∷
-    (eqb (s .head) headerLength || eqb (s .done) 0) ∷
+    (headerDone s || eqb (s .done) 0) ∷
     []
 
 unfoldable pub placeOf : Reader → Bool
@@ -70,35 +120,29 @@ pub record Turn : Type 0 where
 abbrev pub quietOf : Reader → Turn
 quietOf s = record { reader = s; pair = false; first = 0; second = 0 }
 
--- the device count taken; the variant taken; one byte of the record count, highest first
+-- one more header byte: the device count; a variant; one byte of the record count, highest first
 abbrev pub openedOf : Reader → Reader
-openedOf s = record { head = 1; count = s .count; done = s .done; carried = s .carried; bytes = s .bytes; held = s .held; device = s .device }
+openedOf s = withHead s (s .head + 1)
 
 abbrev pub variantTakenOf : Reader → ℕ → Reader
-variantTakenOf s variant = record { head = 2; count = s .count; done = s .done; carried = s .carried; bytes = s .bytes; held = s .held; device = sensorPowered variant }
+variantTakenOf s variant = withDevice (openedOf s) (sensorPowered variant)
 
 abbrev pub countedOf : Reader → ℕ → Reader
-countedOf s b = record { head = s .head + 1; count = s .count * 256 + b; done = s .done; carried = s .carried; bytes = s .bytes; held = s .held; device = s .device }
+countedOf s b = withCount (openedOf s) (s .count * 256 + b)
 
 -- header bytes are judged as they come: 1 unless the device count is 1, 2 unless the variant is 1, 2 or 3
 unfoldable pub headOf : Reader → ℕ → Reader
 headOf s b =
     cond (eqb (s .head) 0) (cond (eqb b 1) (openedOf s) (holdOf s 1))
-    (cond (eqb (s .head) 1) (cond (variantOf b) (variantTakenOf s b) (holdOf s 2))
+    (cond (ltb (s .head) (countPlace (s .device))) (cond (variantOf b) (variantTakenOf s b) (holdOf s 2))
     (countedOf s b))
 
 abbrev pub carryOf : Reader → ℕ → Reader
-carryOf s b = record { head = s .head; count = s .count; done = s .done; carried = s .carried + 1; bytes = set (s .bytes) (s .carried) b; held = s .held; device = s .device }
+carryOf s b = withCarried s (s .carried + 1) (set (s .bytes) (s .carried) b)
 
 -- a record done: its answer pair, nothing carried
 abbrev pub answeredOf : Reader → Answered → Turn
-answeredOf s a =
-    record {
-      reader = record { head = s .head; count = s .count; done = s .done + 1; carried = 0; bytes = noBytes; held = s .held; device = a .sensor };
-      pair = true;
-      first = a .first;
-      second = a .second;
-    }
+answeredOf s a = record { reader = betweenOf s (s .done + 1) (a .sensor); pair = true; first = a .first; second = a .second }
 
 abbrev pub judgedOf : Reader → Record → Turn
 judgedOf s (Valid e) = answeredOf s (sensorEffect (s .device) e)
@@ -112,7 +156,7 @@ recordOf s c = judgedOf s (decodeOf (getD (s .bytes) 0 0) (getD (s .bytes) 1 0) 
 unfoldable pub turnOf : Reader → ℕ → Turn
 turnOf s b =
     cond (eqb (s .held) 0)
-    (cond (ltb (s .head) headerLength) (quietOf (headOf s b))
+    (cond (inHeader s) (quietOf (headOf s b))
     (cond (ltb (s .done) (s .count))
     (cond (ltb (s .carried) 3) (quietOf (carryOf s b)) (recordOf s b))
     (quietOf (holdOf s 5))))
@@ -160,7 +204,7 @@ callOf s xs room = cond (rangesOf s) (feedOf s xs room) (refuseOf s 8)
 
 -- the held code, then 6 unless the capture is at its counted end
 abbrev pub endOf : Reader → ℕ
-endOf s = cond (eqb (s .held) 0) (cond (eqb (s .head) headerLength && eqb (s .done) (s .count)) 0 6) (s .held)
+endOf s = cond (eqb (s .held) 0) (cond (headerDone s && eqb (s .done) (s .count)) 0 6) (s .held)
 
 abbrev pub finishOf : Reader → ℕ
 finishOf s = cond (rangesOf s) (endOf s) 8

@@ -1,6 +1,6 @@
--- What the capture knows of the device: its type, its ranges, power-on and the effect of an event; and the header's length.
+-- What the capture knows of its device: the type, the header's bytes that name it, its ranges, power-on and the effect of an event.
 -- Assumes nothing.
-use Prim.Native.Nat.{ℕ}
+use Prim.Native.Nat.{ℕ, _+_}
 use mathlib.Core.Bool.{Bool, _||_, _&&_}
 use lib.Dec.{ltb}
 use Rattle.device.specs.declared.Device.{Device}
@@ -8,6 +8,7 @@ use Rattle.device.specs.declared.Event.{Event}
 use Rattle.device.specs.Bus.{poweredOf, zeroDevice}
 use Rattle.device.specs.Ranges.{variantOf, rangedOf}
 use Rattle.device.specs.Step.{effectOf, answerOf}
+use Rattle.capture.specs.declared.Answered.{Answered}
 
 abbrev pub Sensor : Type 0
 Sensor = Device
@@ -15,6 +16,22 @@ Sensor = Device
 -- all zeros
 abbrev pub zeroSensor : Sensor
 zeroSensor = zeroDevice
+
+-- ---- the header
+
+-- the device count, which is 1
+abbrev pub devicesOf : Sensor → ℕ
+devicesOf sensor = 1
+
+-- the bytes before the record count: the device count and a variant for each device
+abbrev pub countPlace : Sensor → ℕ
+countPlace sensor = 1 + devicesOf sensor
+
+-- and four bytes of record count
+abbrev pub headerLength : Sensor → ℕ
+headerLength sensor = countPlace sensor + 4
+
+-- ---- the device
 
 -- the device's ranges, and a variant of 1 to 3 once two header bytes are taken
 abbrev pub sensorRanges : ℕ → Sensor → Bool
@@ -25,15 +42,6 @@ abbrev pub sensorPowered : ℕ → Sensor
 sensorPowered variant = poweredOf variant
 
 -- an event's two answer bytes, and the device after it
-pub record Answered : Type 0 where
-  pub first : ℕ
-  pub second : ℕ
-  pub sensor : Device
-
 abbrev pub sensorEffect : Sensor → Event → Answered
 sensorEffect sensor e =
     record { first = answerOf (effectOf sensor e); second = effectOf sensor e .byte; sensor = effectOf sensor e .device }
-
--- device count, variant and four bytes of record count
-abbrev pub headerLength : ℕ
-headerLength = 6

@@ -12,8 +12,8 @@ use Rattle.record.specs.declared.Record.{Record}
 use Rattle.record.specs.declared.Record.the-variants.{Valid, Refused}
 use Rattle.record.specs.Record.{decodeOf, codeOf}
 use Rattle.capture.specs.declared.Reader.{Reader}
-use Rattle.capture.specs.Sensor.{Sensor, zeroSensor, sensorPowered, sensorEffect, headerLength}
-use Rattle.capture.specs.Reader.{noBytes, freshOf, holdOf}
+use Rattle.capture.specs.Sensor.{Sensor, zeroSensor, countPlace, headerLength, sensorPowered, sensorEffect}
+use Rattle.capture.specs.Reader.{noBytes, freshOf, withHead, withCount, withDone, withCarried, holdOf, withDevice}
 
 -- ---- a capture's result
 
@@ -41,11 +41,11 @@ thenOf n answers w = record { code = w .code; consumed = n + w .consumed; answer
 
 -- in the header, so many bytes of it taken
 abbrev pub heading : ℕ → ℕ → Sensor → Reader
-heading head count sensor = record { head = head; count = count; done = 0; carried = 0; bytes = noBytes; held = 0; device = sensor }
+heading head count sensor = withHead (withCount (withDevice freshOf sensor) count) head
 
 -- in the records, k of n done, with some bytes of the next one
 abbrev pub recording : ℕ → ℕ → Sensor → List ℕ → Reader
-recording n k sensor l = record { head = headerLength; count = n; done = k; carried = length l; bytes = take 3 (l ++ noBytes); held = 0; device = sensor }
+recording n k sensor l = withCarried (withDone (heading (headerLength sensor) n sensor) k) (length l) (take 3 (l ++ noBytes))
 
 -- ---- the records
 
@@ -102,10 +102,10 @@ number n (b ∷ bs) = number (n * 256 + b) bs
 
 -- the record count, four bytes, and the records
 unfoldable pub recordCountOf : Sensor → List ℕ → Whole
-recordCountOf sensor [] = endsOf (heading 2 0 sensor) 6
-recordCountOf sensor (a ∷ []) = thenOf 1 [] (endsOf (heading 3 (number 0 (a ∷ [])) sensor) 6)
-recordCountOf sensor (a ∷ b ∷ []) = thenOf 2 [] (endsOf (heading 4 (number 0 (a ∷ b ∷ [])) sensor) 6)
-recordCountOf sensor (a ∷ b ∷ c ∷ []) = thenOf 3 [] (endsOf (heading 5 (number 0 (a ∷ b ∷ c ∷ [])) sensor) 6)
+recordCountOf sensor [] = endsOf (heading (countPlace sensor) 0 sensor) 6
+recordCountOf sensor (a ∷ []) = thenOf 1 [] (endsOf (heading (countPlace sensor + 1) (number 0 (a ∷ [])) sensor) 6)
+recordCountOf sensor (a ∷ b ∷ []) = thenOf 2 [] (endsOf (heading (countPlace sensor + 2) (number 0 (a ∷ b ∷ [])) sensor) 6)
+recordCountOf sensor (a ∷ b ∷ c ∷ []) = thenOf 3 [] (endsOf (heading (countPlace sensor + 3) (number 0 (a ∷ b ∷ c ∷ [])) sensor) 6)
 recordCountOf sensor (a ∷ b ∷ c ∷ d ∷ xs) = thenOf 4 [] (recordsOf (number 0 (a ∷ b ∷ c ∷ d ∷ [])) 0 sensor (quads xs) (over xs))
 
 -- the variant byte

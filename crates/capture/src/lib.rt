@@ -3,8 +3,10 @@ ghost use mathlib.Core.Path.{_≡_};
 ghost use Rattle.capture.specs.Reader.{freshOf, endOf, finishOf, reportOf, FedWith};
 use device::Device;
 
+mod header;
 pub mod ranges;
 mod running;
+mod sensor;
 mod taking;
 
 // Header bytes taken, record count so far, records done, record bytes carried, a lasting code or 0, and the device.
@@ -16,6 +18,13 @@ pub struct Reader {
     pub bytes: [u8; 3],
     pub held: u8,
     pub device: Device,
+}
+
+// An event's two answer bytes, and the device after it.
+pub struct Answered {
+    pub first: u8,
+    pub second: u8,
+    pub sensor: Device,
 }
 
 // The state before a byte of the input.
@@ -36,7 +45,7 @@ pub struct Fed {
 pub fn fresh() -> Reader
     ensures { λ r. ⌜ r ≡ freshOf ⌝ }
 {
-    let device = device::bus::powered(0);
+    let device = sensor::zero();
     Reader {
         head: 0,
         count: 0,
@@ -96,7 +105,7 @@ pub fn ending(reader: Reader) -> u8
     if reader.held != 0 {
         return reader.held;
     }
-    if (reader.head == 6) & (reader.done == reader.count) {
+    if header::complete(reader) & (reader.done == reader.count) {
         return 0;
     }
     6

@@ -3,10 +3,12 @@ ghost use mathlib.Core.Path.{_≡_};
 ghost use mathlib.Core.Bool.{true, false};
 ghost use Prim.Native.Nat.{_<_, _≤_};
 ghost use lib.ListN.{length, set};
-ghost use Rattle.capture.specs.Reader.{holdOf, quietOf, headOf, carryOf, turnOf, rangesOf};
+ghost use Rattle.capture.specs.Reader.{headerLengthOf, holdOf, quietOf, headOf, carryOf, turnOf, rangesOf};
 ghost use Rattle.capture.specs.Loops.{waitsOf, Led};
 use super::Ahead;
 use super::Reader;
+use super::header;
+use super::sensor;
 
 pub(crate) fn hold(s: Reader, code: u8) -> Reader
     ensures { λ r. ⌜ r ≡ holdOf s code ⌝ }
@@ -22,29 +24,27 @@ fn wide(b: u8) -> u32
     b as u32
 }
 
-// A header byte: the device count, the variant, or one of the record count's four.
+// A header byte: the device count, a variant, or one of the record count's four.
 fn head_byte(s: Reader, b: u8) -> Reader
-    requires { ⌜ s .head < 6 ⌝ }
+    requires { ⌜ s .head < headerLengthOf s ⌝ }
     requires { ⌜ s .count < 0x1000000 ⌝ }
     ensures { λ r. ⌜ r ≡ headOf s b ⌝ }
 {
     let mut next = s;
+    next.head = s.head + 1;
     if s.head == 0 {
         if b == 1 {
-            next.head = 1;
             return next;
         }
         return hold(s, 1);
     }
-    if s.head == 1 {
-        if device::ranges::variant(b) {
-            next.head = 2;
-            next.device = device::bus::powered(b);
+    if s.head < sensor::count_place(s.device) {
+        if sensor::variant(b) {
+            next.device = sensor::powered(b);
             return next;
         }
         return hold(s, 2);
     }
-    next.head = s.head + 1;
     next.count = s.count * 0x100 + wide(b);
     next
 }
@@ -95,7 +95,7 @@ fn take_quiet(s: Reader, b: u8) -> Reader
     if s.held != 0 {
         return s;
     }
-    if s.head < 6 {
+    if header::ahead(s) {
         return head_byte(s, b);
     }
     if s.done < s.count {

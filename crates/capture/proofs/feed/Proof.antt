@@ -1,11 +1,13 @@
 -- Assumes nothing.
 use borrow.Author.Needs.{needs}
 use borrow.Author.Tests.{not-true, not-false}
-use Prim.Native.Nat.{_-_}
+use Prim.Native.Nat.{ℕ, _-_}
 use native.Mathlib.Omega.{arith}
 use mathlib.Core.Path.{refl, sym, _∙_}
+use mathlib.Core.List.{List}
 use lib.ListN.{length}
-use Rattle.capture.specs.Reader.{feedOf}
+use Rattle.capture.specs.declared.Fed.{Fed}
+use Rattle.capture.specs.Reader.{feedOf, Meets, FedWith}
 use Rattle.capture.specs.Loops.{Going}
 use Rattle.capture.proofs.Feeds.{start, closed, called, outside}
 use Rattle.capture.proofs.Leads.{onto}
@@ -13,15 +15,30 @@ use Rattle.capture.proofs.feed.Statement.{statement}
 use Rattle.capture.proofs.feed.Tie as tie
 
 abbrev Inv-loop : tie.InvT-loop
-Inv-loop input answers₀ s₀ at₀ written₀ answers s at written = Going (feedOf s₀ input (length answers₀)) input answers₀ answers s at written
+Inv-loop input answers₀ s₀ at₀ written₀ answers s at written =
+    Going (feedOf s₀ input (length answers₀)) input answers₀ answers s at written
 
 abbrev μ-loop : tie.MeasureT-loop
 μ-loop input answers₀ s₀ at₀ written₀ answers s at written = length input - at
 
 -- after `lead` the outcome is no other
 here : (c : tie.After-lead Inv-loop μ-loop)
-    → Going (feedOf (c .before .before .before .before .before .before .args .reader) (c .before .before .before .before .before .before .args .input .now) (length (c .before .before .before .before .before .before .args .answers .now))) (c .before .before .before .before .before .before .args .input .now) (c .before .before .before .before .before .before .args .answers .now) (c .before .loop .answers) (c .lead .result .reader) (c .lead .result .at) (c .before .loop .written)
+    → let a = c .before .before .before .before .before .before .args in
+    let l = c .before .loop in
+    Going (feedOf (a .reader) (a .input .now) (length (a .answers .now))) (a .input .now) (a .answers .now)
+    (l .answers) (c .lead .result .reader) (c .lead .result .at) (l .written)
 here c = c .lead .ensures .onward _ _ _ _ (c .before .loop .inv)
+
+-- behind the test of the ranges what meets the feed's outcome meets the call's
+whole : (c : tie.After-lead Inv-loop μ-loop) {r : Fed} {exit : List ℕ}
+    → let a = c .before .before .before .before .before .before .args in
+    Meets (feedOf (a .reader) (a .input .now) (length (a .answers .now))) r (a .answers .now) exit
+    → FedWith (a .reader) (a .input .now) r (a .answers .now) exit
+whole c m =
+    let i = c .before .before .before in
+    let a = i .before .before .before .args in
+    let good = sym (i .in-range .ensures) ∙ not-false (i .in-range .result) (c .before .before .if1 .left) in
+    called (a .reader) (a .input .now) (a .answers .now) good m
 
 in-range-requires : tie.Need-in-range-requires Inv-loop μ-loop
 in-range-requires c κs = search needs
@@ -31,14 +48,17 @@ report-requires c κs = search needs
 
 returns : tie.Need-returns Inv-loop μ-loop
 returns c =
-    let a = c .before .before .before .before .before .args in
-    rw (c .report .ensures)
-    (outside (a .reader) (a .input .now) (a .answers .now) (sym (c .before .before .in-range .ensures) ∙ not-true (c .before .before .in-range .result) (c .before .if1 .taken)))
+    let i = c .before .before in
+    let a = i .before .before .before .args in
+    let bad = sym (i .in-range .ensures) ∙ not-true (i .in-range .result) (c .before .if1 .taken) in
+    rw (c .report .ensures) (outside (a .reader) (a .input .now) (a .answers .now) bad)
 
 loop-holds : tie.Need-loop-holds Inv-loop μ-loop
 loop-holds c =
-    let a = c .before .before .before .before .args in
-    start (a .reader) (a .input .now) (a .answers .now) (sym (c .before .in-range .ensures) ∙ not-false (c .before .in-range .result) (c .if1 .left))
+    let i = c .before in
+    let a = i .before .before .before .args in
+    let good = sym (i .in-range .ensures) ∙ not-false (i .in-range .result) (c .if1 .left) in
+    start (a .reader) (a .input .now) (a .answers .now) good
 
 lead-requires : tie.Need-lead-requires Inv-loop μ-loop
 lead-requires c κs = (c .loop .inv .ok, c .loop .inv .within)
@@ -51,42 +71,61 @@ same-length c = search needs
 
 returns-2 : tie.Need-returns-2 Inv-loop μ-loop
 returns-2 c =
-    let a = c .before .before .before .before .before .before .before .before .before .before .args in
-    rw (c .report2 .ensures) (called (a .reader) (a .input .now) (a .answers .now) (sym (c .before .before .before .before .before .before .before .in-range .ensures) ∙ not-false (c .before .before .before .before .before .before .before .in-range .result) (c .before .before .before .before .before .before .if1 .left)) (closed (here (c .before .before .before .before)) (c .before .if2 .taken)))
+    let l = c .before .before .before .before in
+    rw (c .report2 .ensures) (whole l (closed (here l) (c .before .if2 .taken)))
 
 sub-if3 : tie.Need-sub-if3 Inv-loop μ-loop
 sub-if3 c = search needs
 
 shared-slice-read-no-room : tie.Need-shared-slice-read-no-room Inv-loop μ-loop
-shared-slice-read-no-room c = onto (c .before .before .before .before .before .lead .ensures) (c .before .before .if2 .left) .0
+shared-slice-read-no-room c =
+    let f = c .before .before in
+    onto (f .before .before .before .lead .ensures) (f .if2 .left) .0
 
 no-room-requires : tie.Need-no-room-requires Inv-loop μ-loop
-no-room-requires c κs = (here (c .before .before .before .before .before) .ok, onto (c .before .before .before .before .before .lead .ensures) (c .before .before .if2 .left) .1)
+no-room-requires c κs =
+    let f = c .before .before in
+    let l = f .before .before .before in
+    (here l .ok, onto (l .lead .ensures) (f .if2 .left) .1)
 
 same-length-2 : tie.Need-same-length-2 Inv-loop μ-loop
 same-length-2 c = search needs
 
 returns-3 : tie.Need-returns-3 Inv-loop μ-loop
 returns-3 c =
-    let a = c .before .before .before .before .before .before .before .before .before .before .before .before .args in
-    called (a .reader) (a .input .now) (a .answers .now) (sym (c .before .before .before .before .before .before .before .before .before .in-range .ensures) ∙ not-false (c .before .before .before .before .before .before .before .before .before .in-range .result) (c .before .before .before .before .before .before .before .before .if1 .left)) (c .no-room .ensures _ _ _ _ (here (c .before .before .before .before .before .before)) (onto (c .before .before .before .before .before .before .lead .ensures) (c .before .before .before .if2 .left) .0) refl (c .before .before .if3 .taken))
+    let f = c .before .before .before in
+    let l = f .before .before .before in
+    let inside = onto (l .lead .ensures) (f .if2 .left) .0 in
+    whole l (c .no-room .ensures _ _ _ _ (here l) inside refl (c .before .before .if3 .taken))
 
 run-requires : tie.Need-run-requires Inv-loop μ-loop
-run-requires c κs = (here (c .before .before .before .before .before) .ok, (onto (c .before .before .before .before .before .lead .ensures) (c .before .before .if2 .left) .1, (onto (c .before .before .before .before .before .lead .ensures) (c .before .before .if2 .left) .0, omega (arith, c .before .if3 .left))))
+run-requires c κs =
+    let f = c .before .before in
+    let l = f .before .before .before in
+    let on = onto (l .lead .ensures) (f .if2 .left) in
+    (here l .ok, (on .1, (on .0, omega (arith, c .before .if3 .left))))
 
 same-length-3 : tie.Need-same-length-3 Inv-loop μ-loop
 same-length-3 c = search needs
 
 returns-4 : tie.Need-returns-4 Inv-loop μ-loop
 returns-4 c =
-    let a = c .before .before .before .before .before .before .before .before .before .before .before .before .before .before .before .before .args in
-    called (a .reader) (a .input .now) (a .answers .now) (sym (c .before .before .before .before .before .before .before .before .before .before .before .before .before .in-range .ensures) ∙ not-false (c .before .before .before .before .before .before .before .before .before .before .before .before .before .in-range .result) (c .before .before .before .before .before .before .before .before .before .before .before .before .if1 .left)) (c .before .before .before .before .run .ensures .ends (c .if4 .taken) _ _ (here (c .before .before .before .before .before .before .before .before .before .before)))
+    let r = c .before .before .before .before in
+    let l = r .before .before .before .before .before .before in
+    whole l (r .run .ensures .ends (c .if4 .taken) _ _ (here l))
 
 loop-less : tie.Need-loop-less Inv-loop μ-loop
-loop-less c = omega (arith, onto (c .before .before .before .before .before .before .before .before .before .before .before .lead .ensures) (c .before .before .before .before .before .before .before .before .if2 .left) .0, c .before .before .before .before .before .before .before .before .before .before .before .lead .ensures .forward, c .before .before .before .before .before .run .ensures .forward (c .before .if4 .left))
+loop-less c =
+    let r = c .before .before .before .before .before in
+    let f = r .before .before .before in
+    let l = f .before .before .before in
+    let inside = onto (l .lead .ensures) (f .if2 .left) .0 in
+    omega (arith, inside, l .lead .ensures .forward, r .run .ensures .forward (c .before .if4 .left))
 
 loop-again : tie.Need-loop-again Inv-loop μ-loop
-loop-again c = c .before .before .before .before .before .run .ensures .onward (c .before .if4 .left) _ _ (here (c .before .before .before .before .before .before .before .before .before .before .before))
+loop-again c =
+    let r = c .before .before .before .before .before in
+    r .run .ensures .onward (c .before .if4 .left) _ _ (here (r .before .before .before .before .before .before))
 
 pub feed-spec : {M : Type 1} → statement M
 feed-spec =

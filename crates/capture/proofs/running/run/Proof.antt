@@ -1,26 +1,49 @@
 -- Assumes nothing.
 use borrow.Author.Needs.{needs}
-use Prim.Native.Nat.{_+_, _-_, _≤_, _<_}
+use Prim.Native.Nat.{ℕ, _-_}
 use borrow.Rule.Slice.PartMut.{putMid}
 use native.Mathlib.Omega.{arith}
 use lib.ListN.{length}
 use mathlib.Core.Path.{sym, _∙_}
-use mathlib.Core.List.{[], _∷_}
+use mathlib.Core.List.{List, [], _∷_}
 use Rattle.laws.proofs.Buffers.{laid}
-use Rattle.capture.proofs.Records.{Running, goes-on, run-start, run-refused, run-left, run-again, same-room}
+use Rattle.capture.proofs.Records.{Running, Stepped, Next, goes-on, run-start, run-refused, run-effect}
 use Rattle.capture.proofs.running.run.Statement.{statement}
 use Rattle.capture.proofs.running.run.Tie as tie
 
 abbrev Inv-loop : tie.InvT-loop
-Inv-loop s input from answers₀ start kind₀ a₀ b₀ device₀ done₀ at₀ written₀ answers kind a b device done at written = Running s input answers₀ from start answers kind a b device done at written
+Inv-loop s input from answers₀ start kind₀ a₀ b₀ device₀ done₀ at₀ written₀ answers kind a b device done at written =
+    Running s input answers₀ from start answers kind a b device done at written
 
 abbrev μ-loop : tie.MeasureT-loop
 μ-loop s input from answers₀ start kind₀ a₀ b₀ device₀ done₀ at₀ written₀ answers kind a b device done at written = length input - at
 
--- behind the loop's test: another record is counted, its four bytes are there, and so is room
+-- the answers with a record's pair stored
+abbrev after : tie.After-put-pair Inv-loop μ-loop → List ℕ
+after p =
+    let l = p .before .before .before .before .before .before .before .before .loop in
+    putMid (l .written) (length (l .answers) - l .written) (l .answers) (p .put-pair .last .0)
+
+stored : (p : tie.After-put-pair Inv-loop μ-loop)
+    → let l = p .before .before .before .before .before .before .before .before .loop in
+    let a = p .before .before .before .before .before .before .before .before .before .before .before .before .before .args in
+    Stepped (a .s) (a .input .now) (a .answers .now) (a .from) (a .start) (l .answers) (after p)
+    (p .before .before .effect .result .sensor) (l .done) (l .at) (l .written)
+stored p =
+    let r = p .before .before .before .before in
+    let known = r .before .before .before in
+    let l = known .before .loop in
+    let valid = sym (r .before .before .decode .ensures) ∙ r .r .given .1 in
+    run-effect (l .inv) (λ i. known .shared-slice-known2 .given i .fits) _ valid (p .before .before .effect .ensures)
+    (laid (l .answers) (p .put-pair .last .0) (_ ∷ _ ∷ []) _ (p .put-pair .ensures))
+
+-- behind the loop's test
 more : (c : tie.Else1 Inv-loop μ-loop)
-    → (c .before .before .before .before .before .before .before .before .before .before .before .before .before .before .loop .done + 1 < c .before .before .before .before .before .before .before .before .before .before .before .before .before .before .before .before .before .before .before .args .s .count) × ((4 ≤ length (c .before .before .before .before .before .before .before .before .before .before .before .before .before .before .before .before .before .before .before .args .input .now) - (c .before .before .before .before .before .before .before .before .before .before .before .before .before .before .loop .at + 1)) × (2 ≤ length (putMid (c .before .before .before .before .before .before .before .before .before .before .before .before .before .before .loop .written) (length (c .before .before .before .before .before .before .before .before .before .before .before .before .before .before .loop .answers) - c .before .before .before .before .before .before .before .before .before .before .before .before .before .before .loop .written) (c .before .before .before .before .before .before .before .before .before .before .before .before .before .before .loop .answers) (c .before .before .before .before .before .put-pair .last .0)) - (c .before .before .before .before .before .before .before .before .before .before .before .before .before .before .loop .written + 2)))
-more c = goes-on (c .before .before .before .before .before .before .before .before .before .before .before .before .before .before .before .before .before .before .before .args .s .count) (c .before .before .before .before .before .before .before .before .before .before .before .before .before .before .loop .done + 1) (length (c .before .before .before .before .before .before .before .before .before .before .before .before .before .before .before .before .before .before .before .args .input .now)) (c .before .before .before .before .before .before .before .before .before .before .before .before .before .before .loop .at + 1) (length (putMid (c .before .before .before .before .before .before .before .before .before .before .before .before .before .before .loop .written) (length (c .before .before .before .before .before .before .before .before .before .before .before .before .before .before .loop .answers) - c .before .before .before .before .before .before .before .before .before .before .before .before .before .before .loop .written) (c .before .before .before .before .before .before .before .before .before .before .before .before .before .before .loop .answers) (c .before .before .before .before .before .put-pair .last .0))) (c .before .before .before .before .before .before .before .before .before .before .before .before .before .before .loop .written + 2) (c .if1 .left)
+    → let p = c .before .before .before .before .before in
+    let l = p .before .before .before .before .before .before .before .before .loop in
+    let a = p .before .before .before .before .before .before .before .before .before .before .before .before .before .args in
+    Next (a .s .count) (l .done) (length (a .input .now)) (l .at) (length (after p)) (l .written)
+more c = goes-on (c .before .before .before .before .before .before .before .before .before .before .before .before .before .loop .inv .input-fits) (c .if1 .left)
 
 array-read-kind : tie.Need-array-read-kind Inv-loop μ-loop
 array-read-kind c = search needs
@@ -33,9 +56,11 @@ array-read-b c = search needs
 
 loop-holds : tie.Need-loop-holds Inv-loop μ-loop
 loop-holds c =
-    let a = c .before .before .before .before .args in
-    let p = c .before .before .before .before .pre in
-    run-start (a .s) (a .input .now) (a .answers .now) (a .from) (a .start) (p .0) (p .1 .0) (search needs) (p .1 .1 .0) (p .1 .1 .1) (omega arith) (omega arith)
+    let b = c .before .before .before .before in
+    let a = b .args in
+    let p = b .pre in
+    run-start (a .s) (a .input .now) (a .answers .now) (a .from) (a .start) (p .0) (p .1 .0) (search needs) (p .1 .1 .0) (p .1 .1 .1)
+    (omega arith) (omega arith)
 
 shared-slice-read-decode : tie.Need-shared-slice-read-decode Inv-loop μ-loop
 shared-slice-read-decode c = search needs
@@ -63,8 +88,11 @@ same-length c = search needs
 
 returns : tie.Need-returns Inv-loop μ-loop
 returns c =
-    let told = c .before .before .before .enum-told .given .1 in
-    rw (c .refused .ensures, c .before .code .ensures, c .before .before .carrying .ensures, told) (run-refused (c .before .before .before .before .before .before .before .loop .inv) _ (sym (c .before .before .before .before .before .decode .ensures) ∙ told))
+    let carried = c .before .before in
+    let told = carried .before .enum-told .given .1 in
+    let d = carried .before .before .before in
+    rw (c .refused .ensures, c .before .code .ensures, carried .carrying .ensures, told)
+    (run-refused (d .before .before .loop .inv) _ (sym (d .decode .ensures) ∙ told))
 
 effect-requires : tie.Need-effect-requires Inv-loop μ-loop
 effect-requires c κs = search needs
@@ -77,9 +105,6 @@ part-put-pair-start c = search needs
 
 part-put-pair-end : tie.Need-part-put-pair-end Inv-loop μ-loop
 part-put-pair-end c = search needs
-
-answer-requires : tie.Need-answer-requires Inv-loop μ-loop
-answer-requires c κs = search needs
 
 put-pair-requires : tie.Need-put-pair-requires Inv-loop μ-loop
 put-pair-requires c κs = search needs
@@ -106,37 +131,36 @@ report-requires : tie.Need-report-requires Inv-loop μ-loop
 report-requires c κs = search needs
 
 same-length-2 : tie.Need-same-length-2 Inv-loop μ-loop
-same-length-2 c = same-room (c .before .before .before .before .before .before .before .before .before .before .before .before .before .before .before .before .loop .inv) (λ i. c .before .before .before .before .before .before .before .before .before .before .before .before .before .before .before .shared-slice-known2 .given i .fits) _ (sym (c .before .before .before .before .before .before .before .before .before .before .before .before .before .before .decode .ensures) ∙ c .before .before .before .before .before .before .before .before .before .before .before .before .r .given .1) (rw (c .before .before .before .before .before .before .before .before .answer .ensures, c .before .before .before .before .before .before .before .before .before .before .effect .ensures) at (laid (c .before .before .before .before .before .before .before .before .before .before .before .before .before .before .before .before .loop .answers) (c .before .before .before .before .before .before .before .put-pair .last .0) (_ ∷ _ ∷ []) _ (c .before .before .before .before .before .before .before .put-pair .ensures))) ∙ c .before .before .before .before .before .before .before .before .before .before .before .before .before .before .before .before .loop .inv .long
+same-length-2 c =
+    let p = c .before .before .before .before .before .before .before in
+    stored p .long ∙ p .before .before .before .before .before .before .before .before .loop .inv .long
 
 returns-2 : tie.Need-returns-2 Inv-loop μ-loop
-returns-2 c = rw (c .report .ensures, c .before .between .ensures, c .before .before .before .before .before .before .before .before .before .before .effect .ensures) (run-left (c .before .before .before .before .before .before .before .before .before .before .before .before .before .before .before .before .loop .inv) (λ i. c .before .before .before .before .before .before .before .before .before .before .before .before .before .before .before .shared-slice-known2 .given i .fits) _ (sym (c .before .before .before .before .before .before .before .before .before .before .before .before .before .before .decode .ensures) ∙ c .before .before .before .before .before .before .before .before .before .before .before .before .r .given .1) (rw (c .before .before .before .before .before .before .before .before .answer .ensures, c .before .before .before .before .before .before .before .before .before .before .effect .ensures) at (laid (c .before .before .before .before .before .before .before .before .before .before .before .before .before .before .before .before .loop .answers) (c .before .before .before .before .before .before .before .put-pair .last .0) (_ ∷ _ ∷ []) _ (c .before .before .before .before .before .before .before .put-pair .ensures))))
+returns-2 c = rw (c .report .ensures, c .before .between .ensures) (stored (c .before .before .before .before .before .before .before) .left)
 
 shared-slice-read-kind : tie.Need-shared-slice-read-kind Inv-loop μ-loop
-shared-slice-read-kind c = omega (arith, more (c .before) .1 .0, c .before .before .before .before .before .before .before .before .before .before .before .before .before .before .before .loop .inv .input-fits)
+shared-slice-read-kind c = omega (arith, more (c .before))
 
 add-a : tie.Need-add-a Inv-loop μ-loop
-add-a c = omega (arith, more (c .before) .1 .0, c .before .before .before .before .before .before .before .before .before .before .before .before .before .before .before .loop .inv .input-fits)
+add-a c = omega (arith, more (c .before))
 
 shared-slice-read-a : tie.Need-shared-slice-read-a Inv-loop μ-loop
-shared-slice-read-a c = omega (arith, more (c .before .before) .1 .0, c .before .before .before .before .before .before .before .before .before .before .before .before .before .before .before .before .loop .inv .input-fits)
+shared-slice-read-a c = omega (arith, more (c .before .before))
 
 add-b : tie.Need-add-b Inv-loop μ-loop
-add-b c = omega (arith, more (c .before .before) .1 .0, c .before .before .before .before .before .before .before .before .before .before .before .before .before .before .before .before .loop .inv .input-fits)
+add-b c = omega (arith, more (c .before .before))
 
 shared-slice-read-b : tie.Need-shared-slice-read-b Inv-loop μ-loop
-shared-slice-read-b c = omega (arith, more (c .before .before .before) .1 .0, c .before .before .before .before .before .before .before .before .before .before .before .before .before .before .before .before .before .loop .inv .input-fits)
+shared-slice-read-b c = omega (arith, more (c .before .before .before))
 
 add-at-2 : tie.Need-add-at-2 Inv-loop μ-loop
-add-at-2 c = omega (arith, more (c .before .before .before) .1 .0, c .before .before .before .before .before .before .before .before .before .before .before .before .before .before .before .before .before .loop .inv .input-fits)
+add-at-2 c = omega (arith, more (c .before .before .before))
 
 loop-less : tie.Need-loop-less Inv-loop μ-loop
 loop-less c = search needs
 
 loop-again : tie.Need-loop-again Inv-loop μ-loop
-loop-again c =
-    let n = more (c .before .before .before) in
-    let long = same-room (c .before .before .before .before .before .before .before .before .before .before .before .before .before .before .before .before .before .loop .inv) (λ i. c .before .before .before .before .before .before .before .before .before .before .before .before .before .before .before .before .shared-slice-known2 .given i .fits) _ (sym (c .before .before .before .before .before .before .before .before .before .before .before .before .before .before .before .decode .ensures) ∙ c .before .before .before .before .before .before .before .before .before .before .before .before .before .r .given .1) (rw (c .before .before .before .before .before .before .before .before .before .answer .ensures, c .before .before .before .before .before .before .before .before .before .before .before .effect .ensures) at (laid (c .before .before .before .before .before .before .before .before .before .before .before .before .before .before .before .before .before .loop .answers) (c .before .before .before .before .before .before .before .before .put-pair .last .0) (_ ∷ _ ∷ []) _ (c .before .before .before .before .before .before .before .before .put-pair .ensures))) in
-    rw (c .before .before .before .before .before .before .before .before .before .before .before .effect .ensures) (run-again (c .before .before .before .before .before .before .before .before .before .before .before .before .before .before .before .before .before .loop .inv) (λ i. c .before .before .before .before .before .before .before .before .before .before .before .before .before .before .before .before .shared-slice-known2 .given i .fits) _ (sym (c .before .before .before .before .before .before .before .before .before .before .before .before .before .before .before .decode .ensures) ∙ c .before .before .before .before .before .before .before .before .before .before .before .before .before .r .given .1) (rw (c .before .before .before .before .before .before .before .before .before .answer .ensures, c .before .before .before .before .before .before .before .before .before .before .before .effect .ensures) at (laid (c .before .before .before .before .before .before .before .before .before .before .before .before .before .before .before .before .before .loop .answers) (c .before .before .before .before .before .before .before .before .put-pair .last .0) (_ ∷ _ ∷ []) _ (c .before .before .before .before .before .before .before .before .put-pair .ensures))) (n .0) (omega (arith, n .1 .0)) (omega (arith, n .1 .1, c .before .before .before .before .before .before .before .before .before .before .before .before .before .before .before .before .before .loop .inv .room, long)) long)
+loop-again c = stored (c .before .before .before .before .before .before .before .before) .again (more (c .before .before .before))
 
 pub run-spec : {M : Type 1} → statement M
 run-spec =
@@ -161,7 +185,6 @@ run-spec =
     sub-put-pair
     part-put-pair-start
     part-put-pair-end
-    answer-requires
     put-pair-requires
     add-done
     add-written

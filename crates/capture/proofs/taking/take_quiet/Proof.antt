@@ -1,42 +1,64 @@
 -- Assumes nothing.
 use borrow.Author.Needs.{needs}
-use borrow.Author.Tests.{eq-eqb, ne-eqb, lt-ltb, le-ltb}
-use Rattle.capture.specs.Reader.{turnOf}
-use Rattle.capture.proofs.InRange.{count-small}
+use borrow.Author.Tests.{ltb-true}
+use mathlib.Core.Path.{sym, _∙_}
+use Rattle.capture.proofs.InRange.{completed, count-small}
 use Rattle.capture.proofs.Records.{not-waiting}
+use Rattle.capture.proofs.Turns.{held-turn, head-turn, carried-turn, past-turn}
 use Rattle.capture.proofs.taking.take_quiet.Statement.{statement}
 use Rattle.capture.proofs.taking.take_quiet.Tie as tie
 
 returns : tie.Need-returns
-unfolding turnOf
-returns c = simp (ne-eqb _ _ (c .if1 .taken))
+returns c = let a = c .before .before .args in held-turn (a .s) (a .b) (c .if1 .taken)
+
+ahead-requires : tie.Need-ahead-requires
+ahead-requires c κs = search needs
 
 head-byte-requires : tie.Need-head-byte-requires
-head-byte-requires c κs = (c .if2 .taken, count-small (c .before .before .before .before .args .s) (c .before .before .before .before .pre .0) (c .if2 .taken))
+head-byte-requires c κs =
+    let b = c .before .before .before .before in
+    let inside = ltb-true _ _ (sym (c .before .ahead .ensures) ∙ c .if2 .taken) in
+    (inside, count-small (b .args .s) (b .pre .0) inside)
 
 returns-2 : tie.Need-returns-2
-unfolding turnOf
-returns-2 c = simp (eq-eqb _ _ (c .before .before .before .if1 .left), lt-ltb _ _ (c .before .if2 .taken), c .head-byte .ensures)
+returns-2 c =
+    let f = c .before .before .before in
+    let a = f .before .before .args in
+    let inside = ltb-true _ _ (sym (c .before .before .ahead .ensures) ∙ c .before .if2 .taken) in
+    rw (c .head-byte .ensures) (head-turn (a .s) (a .b) (f .if1 .left) inside)
 
 carry-requires : tie.Need-carry-requires
-carry-requires c κs = not-waiting (c .before .before .before .before .before .before .args .s) (c .before .before .before .before .before .before .pre .0) (c .before .before .before .before .before .before .pre .1) (c .before .before .before .before .if1 .left)
+carry-requires c κs =
+    let f = c .before .before .before .before in
+    let b = f .before .before in
+    not-waiting (b .args .s) (b .pre .0) (b .pre .1) (f .if1 .left)
 
 returns-3 : tie.Need-returns-3
-unfolding turnOf
-returns-3 c = simp (eq-eqb _ _ (c .before .before .before .before .before .if1 .left), le-ltb _ _ (c .before .before .before .if2 .left), lt-ltb _ _ (c .before .if3 .taken), lt-ltb _ _ (not-waiting (c .before .before .before .before .before .before .before .args .s) (c .before .before .before .before .before .before .before .pre .0) (c .before .before .before .before .before .before .before .pre .1) (c .before .before .before .before .before .if1 .left)), c .carry .ensures)
+returns-3 c =
+    let h = c .before .before .before .before in
+    let f = h .before in
+    let b = f .before .before in
+    let few = not-waiting (b .args .s) (b .pre .0) (b .pre .1) (f .if1 .left) in
+    let complete = completed (b .args .s) (b .pre .0) (sym (h .ahead .ensures) ∙ c .before .before .before .if2 .left) in
+    rw (c .carry .ensures) (carried-turn (b .args .s) (b .args .b) (f .if1 .left) complete (c .before .if3 .taken) few)
 
 hold-requires : tie.Need-hold-requires
 hold-requires c κs = search needs
 
 returns-4 : tie.Need-returns-4
-unfolding turnOf
-returns-4 c = simp (eq-eqb _ _ (c .before .before .before .before .before .if1 .left), le-ltb _ _ (c .before .before .before .if2 .left), le-ltb _ _ (c .before .if3 .left), c .hold .ensures)
+returns-4 c =
+    let h = c .before .before .before .before in
+    let f = h .before in
+    let b = f .before .before in
+    let complete = completed (b .args .s) (b .pre .0) (sym (h .ahead .ensures) ∙ c .before .before .before .if2 .left) in
+    rw (c .hold .ensures) (past-turn (b .args .s) (b .args .b) (f .if1 .left) complete (c .before .if3 .left))
 
 pub take-quiet-spec : {M : Type 1} → statement M
 take-quiet-spec =
     tie.close
     (tie.spec
     returns
+    ahead-requires
     head-byte-requires
     returns-2
     carry-requires

@@ -1,0 +1,13 @@
+-- Assumes nothing.
+use borrow.Author.Needs.{needs}
+use Rattle.capture.proofs.header.ahead.Statement.{statement}
+use Rattle.capture.proofs.header.ahead.Tie as tie
+
+length-requires : tie.Need-length-requires
+length-requires c κs = search needs
+
+returns : tie.Need-returns
+returns c = rw (c .before .length .ensures)
+
+pub ahead-spec : {M : Type 1} → statement M
+ahead-spec = tie.close (tie.spec length-requires returns)

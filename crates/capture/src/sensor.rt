@@ -1,0 +1,58 @@
+// What the reader knows of its device.
+ghost use mathlib.Core.Path.{_≡_};
+ghost use Rattle.device.specs.Ranges.{variantOf};
+ghost use Rattle.capture.specs.Sensor.{zeroSensor, countPlace, headerLength, sensorRanges, sensorPowered, sensorEffect};
+use super::Answered;
+use device::Device;
+use device::Event;
+
+// All zeros.
+pub(crate) fn zero() -> Device
+    ensures { λ r. ⌜ r ≡ zeroSensor ⌝ }
+{
+    device::bus::powered(0)
+}
+
+// The header's bytes before the record count: the device count, which is 1, and a variant.
+pub(crate) fn count_place(sensor: Device) -> u8
+    ensures { λ r. ⌜ r ≡ countPlace sensor ⌝ }
+{
+    2
+}
+
+pub(crate) fn header_length(sensor: Device) -> u8
+    ensures { λ r. ⌜ r ≡ headerLength sensor ⌝ }
+{
+    count_place(sensor) + 4
+}
+
+pub(crate) fn ranges(head: u8, sensor: Device) -> bool
+    ensures { λ r. ⌜ r ≡ sensorRanges head sensor ⌝ }
+{
+    ((head < 2) | device::ranges::variant(sensor.variant)) & device::ranges::ranged(sensor)
+}
+
+pub(crate) fn variant(v: u8) -> bool
+    ensures { λ r. ⌜ r ≡ variantOf v ⌝ }
+{
+    device::ranges::variant(v)
+}
+
+pub(crate) fn powered(variant: u8) -> Device
+    ensures { λ r. ⌜ r ≡ sensorPowered variant ⌝ }
+{
+    device::bus::powered(variant)
+}
+
+pub(crate) fn effect(sensor: Device, e: Event) -> Answered
+    ensures { λ r. ⌜ r ≡ sensorEffect sensor e ⌝ }
+{
+    let o = device::effect(sensor, e);
+    let first = device::answer(o);
+    let after = o.device;
+    Answered {
+        first,
+        second: o.byte,
+        sensor: after,
+    }
+}
