@@ -12,7 +12,9 @@ use borrow.Rule.Slice.PartMut.{putMid}
 use borrow.Author.Tests.{le-leb, lt-leb, leb-true}
 use Rattle.laws.proofs.Buffers.{copied, laid}
 use Rattle.laws.proofs.Choices.{cond-ind}
-use Rattle.lines.specs.Lines.{zerosOf, tenDigits, decimalOf, fittingOf, Lined}
+use Rattle.capture.specs.declared.Fed.{Fed}
+use Rattle.capture.specs.Reader.{Out, Meets}
+use Rattle.lines.specs.Lines.{zerosOf, tenDigits, decimalOf, fittingOf, Laid, Lined}
 
 -- ---- numbers
 
@@ -109,22 +111,28 @@ module _ (word tail entry : List ℕ) (n : ℕ) {z : ℕ} (zeros : z ≡ zerosOf
       (written line entry (omega arith) (third ∙ ap (λ (x : List ℕ). x ++ drop (length x) entry) same))
 
 -- two results that meet the promise are equal, and so are their buffers
-pub one-line : {line entry exit exit′ : List ℕ} {m n : ℕ} → Lined line m entry exit → Lined line n entry exit′ → (m ≡ n) × (exit ≡ exit′)
+pub one-line : {text entry exit exit′ : List ℕ} {m n : ℕ} → Laid text m entry exit → Laid text n entry exit′ → (m ≡ n) × (exit ≡ exit′)
 one-line p q = (p .told ∙ sym (q .told), p .buffer ∙ sym (q .buffer))
 
--- no more is counted than the room holds, and the room stays as long as it was
-pub within : {line entry exit : List ℕ} {count : ℕ} → Lined line count entry exit → count ≤ length entry
-within {line} {entry} p =
-    rw (p .told) (cond-ind (λ (l : List ℕ). length l ≤ length entry) (leb (length line) (length entry)) (λ h. leb-true (length line) (length entry) h) (λ _. omega arith))
+-- ---- room
 
-pub same-room : {line entry exit : List ℕ} {count : ℕ} → Lined line count entry exit → length exit ≡ length entry
-same-room {line} {entry} {exit} p =
-    let f : List ℕ = fittingOf line (length entry) in
-    let a : length exit ≡ length f + length (drop (length f) entry) = ap length (p .buffer) ∙ length-append f (drop (length f) entry) in
-    let b : length (drop (length f) entry) ≡ length entry - length f = length-drop (length f) entry in
-    let w = within p in
-    let t = p .told in
+pub fitting-short : (line : List ℕ) (room : ℕ) → length (fittingOf line room) ≤ room
+fitting-short line room =
+    cond-ind (λ (l : List ℕ). length l ≤ room) (leb (length line) room) (λ h. leb-true (length line) room h) (λ _. omega arith)
+
+-- a text that fits leaves the buffer as long as it was
+pub same-room : {text entry exit : List ℕ} {count : ℕ} → Laid text count entry exit → length text ≤ length entry → length exit ≡ length entry
+same-room {text} {entry} {exit} p h =
+    let a : length exit ≡ length text + length (drop (length text) entry) = ap length (p .buffer) ∙ length-append text (drop (length text) entry) in
+    let b : length (drop (length text) entry) ≡ length entry - length text = length-drop (length text) entry in
     omega arith
 
-pub inside : {line entry exit : List ℕ} {count : ℕ} → Lined line count entry exit → count ≤ length exit
-inside p = rw (same-room p) (within p)
+-- what stands in front of a buffer is within it
+in-front : (text rest : List ℕ) {exit : List ℕ} {count : ℕ} → count ≡ length text → exit ≡ text ++ rest → count ≤ length exit
+in-front text rest t e = let a = ap length e ∙ length-append text rest in omega arith
+
+pub inside : {text entry exit : List ℕ} {count : ℕ} → Laid text count entry exit → count ≤ length exit
+inside {text} {entry} p = in-front text (drop (length text) entry) (p .told) (p .buffer)
+
+pub answers-inside : {o : Out} {r : Fed} {entry exit : List ℕ} → Meets o r entry exit → r .written ≤ length exit
+answers-inside {o} {entry = entry} p = in-front (o .answers) (drop (length (o .answers)) entry) (p .written) (p .buffer)

@@ -1,7 +1,7 @@
 // The listing's lines, as bytes in a lent buffer.
 ghost use mathlib.Core.Path.{_≡_};
 ghost use mathlib.Core.List.{_++_};
-ghost use Rattle.lines.specs.Lines.{zerosOf, digitOf, hexOf, tenDigits, decimalOf, lineOf, endLineOf, Lined};
+ghost use Rattle.lines.specs.Lines.{zerosOf, digitOf, hexOf, tenDigits, decimalOf, lineOf, endLineOf, Lined, Listed};
 
 // How many of ten digits are leading zeros.
 fn zeros(n: u32) -> usize
@@ -99,6 +99,25 @@ pub fn record_line(n: u32, first: u8, second: u8, room: &mut [u8]) -> usize
         b'\n',
     ];
     put(&word, n, &tail, room)
+}
+
+// The lines of a call's answers, numbered from `first` on: as many whole lines as there is room for; how many bytes.
+pub fn record_lines(answers: &[u8], first: u32, room: &mut [u8]) -> usize
+    ensures { λ r. ⌜ Listed first (now (answers .entry)) r (now (room .entry)) (now (room .exit)) ⌝ }
+{
+    let mut i: usize = 0;
+    let mut size: usize = 0;
+    let mut n = first;
+    while answers.len() - i >= 2 {
+        let line = record_line(n, answers[i], answers[i + 1], &mut room[size..]);
+        if line == 0 {
+            break;
+        }
+        size += line;
+        n = std::num::wrapping_add_u32(n, 1);
+        i += 2;
+    }
+    size
 }
 
 // The end line: records done and finishing code; 0 where there is no room for it.
