@@ -76,15 +76,19 @@ laid-on {text} {entry} {room} {last} {next} {todo} {size} {count} g p h =
     let w = g .within in
     let k = g .long in
     let t = p .told in
-    let after : List ℕ = putMid size (length room - size) room last in
+    let more : ℕ = size + count in
     let front : List ℕ = take size room ++ next in
-    let e : after ≡ front ++ drop (length next) (drop size room) = laid room last next size (p .buffer) ∙ sym (append-assoc (take size room) next (drop (length next) (drop size room))) in
-    let l : length front ≡ size + count = length-append (take size room) next ∙ rw (length-take-le size room (omega arith), t) refl in
+    let back : List ℕ = drop (length next) (drop size room) in
+    let e : putMid size (length room - size) room last ≡ front ++ back
+    = laid room last next size (p .buffer) ∙ sym (append-assoc (take size room) next back) in
+    let l : length front ≡ more = length-append (take size room) next ∙ rw (length-take-le size room (omega arith), t) refl in
+    let kept : drop (length next) (drop size entry) ≡ drop (size + length next) entry = drop-drop (length next) size entry in
+    let shown = ap (take more) e ∙ take-at front back more l in
     record {
       within = omega arith;
       long = same-len-mid size (length room - size) room last (same-room p (rw (mid-len size (length room) room (le-refl (length room))) h)) ∙ k;
-      rest = ap (drop (size + count)) e ∙ drop-at front (drop (length next) (drop size room)) (size + count) l ∙ rw (g .rest, t) (drop-drop (length next) size entry);
-      same = g .same ∙ sym (append-assoc (take size room) next todo) ∙ ap (λ (x : List ℕ). x ++ todo) (sym (ap (take (size + count)) e ∙ take-at front (drop (length next) (drop size room)) (size + count) l));
+      rest = ap (drop more) e ∙ drop-at front back more l ∙ rw (g .rest, t) kept;
+      same = g .same ∙ sym (append-assoc (take size room) next todo) ∙ ap (λ (x : List ℕ). x ++ todo) (sym shown);
     }
 
 -- ---- a line more
@@ -128,7 +132,8 @@ module _ {text entry room last : List ℕ} {size count : ℕ} (answers : List �
       laid-on (rw e at g) (rw room-left at p) (let k = fitting-short line (length entry - size) in let l = g .long in omega arith)
 
   pub line-more : (count ≡ 0 → ⊥)
-      → Going text entry (putMid size (length room - size) room last) (size + count) (fittingLinesOf (length entry - (size + count)) (nextOf n) (drop (i + 2) answers))
+      → Going text entry (putMid size (length room - size) room last) (size + count)
+      (fittingLinesOf (length entry - (size + count)) (nextOf n) (drop (i + 2) answers))
   line-more f =
       let h = fits f in
       let fitting : fittingOf line (length entry - size) ≡ line = ap (λ (t : Bool). cond t line []) (le-leb (length line) (length entry - size) h) in
@@ -151,7 +156,7 @@ module _ {text entry room last : List ℕ} {size count : ℕ} (answers : List �
       finished (rw same at g)
 
 -- fewer than two answers are left
-pub no-pair : {text entry room : List ℕ} {size : ℕ} (answers : List ℕ) (n i : ℕ) → Going text entry room size (fittingLinesOf (length entry - size) n (drop i answers))
-    → length answers - i < 2 → Laid text size entry room
+pub no-pair : {text entry room : List ℕ} {size : ℕ} (answers : List ℕ) (n i : ℕ)
+    → Going text entry room size (fittingLinesOf (length entry - size) n (drop i answers)) → length answers - i < 2 → Laid text size entry room
 no-pair {entry = entry} {size = size} answers n i g h =
     finished (rw (lines-end (length entry - size) n (drop i answers) (simp length-drop (omega arith))) at g)

@@ -103,7 +103,8 @@ module _ (word tail entry : List ℕ) (n : ℕ) {z : ℕ} (zeros : z ≡ zerosOf
       let number : middle ≡ decimalOf n
       = rw (ten, zeros) (take-all (10 - zerosOf n) (decimalOf n) (simp length-drop (omega arith))) in
       let long : length (word ++ middle) ≡ b = length-append word middle ∙ ap (λ (k : ℕ). length word + k) (ap length number ∙ number-length) in
-      let second : m ≡ (word ++ middle) ++ drop (length (word ++ middle)) entry = next-layer entry word l last middle (length word) refl (copied word entry e) f in
+      let second : m ≡ (word ++ middle) ++ drop (length (word ++ middle)) entry
+      = next-layer entry word l last middle (length word) refl (copied word entry e) f in
       let third = next-layer entry (word ++ middle) m last′ tail b long second g in
       let same : (word ++ middle) ++ tail ≡ line = append-assoc word middle tail ∙ ap (λ (x : List ℕ). word ++ (x ++ tail)) number in
       let k = line-length in

@@ -1,2 +1,5 @@
 pub mod Layers
 pub mod Blocks
+pub mod Numbered
+pub mod Fours
+pub mod Turns
