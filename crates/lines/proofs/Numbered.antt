@@ -16,7 +16,7 @@ use Rattle.lines.proofs.Blocks.{lines-on, lines-end}
 -- ---- lengths
 
 number-short : (n : ℕ) → length (decimalOf n) ≤ 10
-number-short n = let l = length-drop (zerosOf n) (tenDigits n) in omega arith
+number-short n = let l = length-drop (zerosOf (tenDigits n)) (tenDigits n) in omega arith
 
 pub line-short : (n a b : ℕ) → length (lineOf n a b) ≤ 17
 line-short n a b = let k = number-short n in let l = length-append (decimalOf n) (pairOf a b) in omega arith

@@ -4,7 +4,7 @@ use Prim.Native.Nat.{ℕ, _+_, _-_, _/_, _%_, _^_}
 use mathlib.Core.Path.{_≡_}
 use mathlib.Core.Bool.{cond}
 use mathlib.Core.List.{List, [], _∷_, _++_}
-use lib.Dec.{ltb, leb}
+use lib.Dec.{ltb, leb, eqb}
 use lib.ListN.{length, drop}
 use Rattle.capture.specs.Whole.{wholeOf}
 
@@ -24,23 +24,15 @@ tenDigits n =
     digitOf (n / 1000000000) ∷ digitOf (n / 100000000) ∷ digitOf (n / 10000000) ∷ digitOf (n / 1000000) ∷ digitOf (n / 100000)
     ∷ digitOf (n / 10000) ∷ digitOf (n / 1000) ∷ digitOf (n / 100) ∷ digitOf (n / 10) ∷ digitOf n ∷ []
 
--- how many of them are leading zeros; the last digit always stands
-unfoldable pub zerosOf : ℕ → ℕ
-zerosOf n =
-    cond (ltb n 10) 9
-    (cond (ltb n 100) 8
-    (cond (ltb n 1000) 7
-    (cond (ltb n 10000) 6
-    (cond (ltb n 100000) 5
-    (cond (ltb n 1000000) 4
-    (cond (ltb n 10000000) 3
-    (cond (ltb n 100000000) 2
-    (cond (ltb n 1000000000) 1
-    0))))))))
+-- how many of a row of digits are leading zeros; the last one always stands
+unfoldable pub zerosOf : List ℕ → ℕ
+zerosOf [] = 0
+zerosOf (d ∷ []) = 0
+zerosOf (d ∷ e ∷ digits) = cond (eqb d 48) (zerosOf (e ∷ digits) + 1) 0
 
 -- a number below 10^10, with no leading zeros; a record count is below 2^32
 abbrev pub decimalOf : ℕ → List ℕ
-decimalOf n = drop (zerosOf n) (tenDigits n)
+decimalOf n = drop (zerosOf (tenDigits n)) (tenDigits n)
 
 -- ---- lines: 32 is a blank, 10 a line feed
 

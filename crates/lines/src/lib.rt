@@ -1,34 +1,7 @@
 // The listing's lines, as bytes in a lent buffer.
 ghost use mathlib.Core.Path.{_≡_};
 ghost use mathlib.Core.List.{_++_};
-ghost use Rattle.lines.specs.Lines.{zerosOf, digitOf, hexOf, tenDigits, decimalOf, lineOf, endLineOf, Lined, Listed};
-
-// How many of ten digits are leading zeros.
-fn zeros(n: u32) -> usize
-    ensures { λ r. ⌜ r ≡ zerosOf n ⌝ }
-{
-    if n < 10 {
-        9
-    } else if n < 100 {
-        8
-    } else if n < 1000 {
-        7
-    } else if n < 10000 {
-        6
-    } else if n < 100000 {
-        5
-    } else if n < 1000000 {
-        4
-    } else if n < 10000000 {
-        3
-    } else if n < 100000000 {
-        2
-    } else if n < 1000000000 {
-        1
-    } else {
-        0
-    }
-}
+ghost use Rattle.lines.specs.Lines.{digitOf, hexOf, tenDigits, zerosOf, decimalOf, lineOf, endLineOf, Lined, Listed};
 
 fn digit(n: u32) -> u8
     ensures { λ r. ⌜ r ≡ digitOf n ⌝ }
@@ -60,12 +33,26 @@ fn ten(n: u32) -> [u8; 10]
     ]
 }
 
+// How many of the digits are leading zeros; the last one always stands.
+fn zeros(digits: [u8; 10]) -> usize
+    ensures { λ r. ⌜ r ≡ zerosOf digits ⌝ }
+{
+    let mut z: usize = 0;
+    while z < 9 {
+        if digits[z] != b'0' {
+            break;
+        }
+        z += 1;
+    }
+    z
+}
+
 // A word, a number and a tail to the front of the room, if they fit; how many bytes.
 fn put(word: &[u8], n: u32, tail: &[u8], room: &mut [u8]) -> usize
     ensures { λ r. ⌜ Lined (now (word .entry) ++ (decimalOf n ++ now (tail .entry))) r (now (room .entry)) (now (room .exit)) ⌝ }
 {
     let digits = ten(n);
-    let skip = zeros(n);
+    let skip = zeros(digits);
     let size = room.len();
     let a = word.len();
     if size < a {
@@ -109,7 +96,9 @@ pub fn record_lines(answers: &[u8], first: u32, room: &mut [u8]) -> usize
     let mut size: usize = 0;
     let mut n = first;
     while answers.len() - i >= 2 {
-        let line = record_line(n, answers[i], answers[i + 1], &mut room[size..]);
+        let a = answers[i];
+        let b = answers[i + 1];
+        let line = record_line(n, a, b, &mut room[size..]);
         if line == 0 {
             break;
         }

@@ -22,14 +22,14 @@ loop-holds c = (start _ _ _, omega arith, omega arith)
 sub-loop : tie.Need-sub-loop Inv-loop μ-loop
 sub-loop c = search needs
 
-shared-slice-read-record-line : tie.Need-shared-slice-read-record-line Inv-loop μ-loop
-shared-slice-read-record-line c = search needs
+shared-slice-read-a : tie.Need-shared-slice-read-a Inv-loop μ-loop
+shared-slice-read-a c = search needs
 
-add-record-line : tie.Need-add-record-line Inv-loop μ-loop
-add-record-line c = search needs
+add-b : tie.Need-add-b Inv-loop μ-loop
+add-b c = search needs
 
-shared-slice-read-record-line-2 : tie.Need-shared-slice-read-record-line-2 Inv-loop μ-loop
-shared-slice-read-record-line-2 c = search needs
+shared-slice-read-b : tie.Need-shared-slice-read-b Inv-loop μ-loop
+shared-slice-read-b c = search needs
 
 sub-record-line : tie.Need-sub-record-line Inv-loop μ-loop
 sub-record-line c = search needs
@@ -87,9 +87,9 @@ record-lines-spec =
     μ-loop
     loop-holds
     sub-loop
-    shared-slice-read-record-line
-    add-record-line
-    shared-slice-read-record-line-2
+    shared-slice-read-a
+    add-b
+    shared-slice-read-b
     sub-record-line
     part-record-line-start
     part-record-line-end
