@@ -4,3 +4,4 @@ pub mod Blocks
 pub mod Numbered
 pub mod Fours
 pub mod Turns
+pub mod Endings

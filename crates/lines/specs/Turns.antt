@@ -7,6 +7,7 @@ use lib.ListN.{length, take}
 use Rattle.capture.specs.declared.Reader.{Reader}
 use Rattle.capture.specs.declared.Fed.{Fed}
 use Rattle.capture.specs.Reader.{freshOf, finishOf, FedWith}
+use Rattle.capture.specs.Schedule.{joined}
 use Rattle.lines.specs.Lines.{endLineOf, nextOf, Lined, Listed}
 
 -- ---- the program's buffers
@@ -61,3 +62,18 @@ pub record Output (parts : List (List ℕ)) (rest output : List ℕ) : Type 0 wh
   pub wide : endRoom ≤ length blank
   pub lined : Lined (endLineOf (last .done) (finishOf last)) size blank page
   pub written : output ≡ text ++ take size page
+
+-- ---- that there is one
+
+-- every part can be read at once
+abbrev pub Read : List (List ℕ) → Type 0
+Read [] = Unit {0}
+Read (part ∷ parts) = (length part ≤ readMost) × Read parts
+
+-- an output over an input: of parts that are read, and what is unread
+pub record Ends (input : List ℕ) : Type 0 where
+  pub used : List (List ℕ)
+  pub rest : List ℕ
+  pub output : List ℕ
+  pub same : joined used ++ rest ≡ input
+  pub written : Output used rest output
