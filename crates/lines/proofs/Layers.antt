@@ -5,35 +5,17 @@ use mathlib.Core.Path.{_≡_, refl, sym, ap, subst, _∙_}
 use mathlib.Core.Bool.{Bool, cond}
 use mathlib.Core.List.{List, [], _++_, append-assoc}
 use native.Mathlib.Omega.{arith}
-use lib.Dec.{ltb, leb}
+use lib.Dec.{leb}
 use lib.ListN.{length, take, drop, length-append, length-drop}
 use lib.Seq.{take-all, take-at, drop-at, drop-drop}
 use borrow.Rule.Slice.PartMut.{putMid}
 use borrow.Author.Tests.{le-leb, lt-leb, leb-true}
 use Rattle.laws.proofs.Buffers.{copied, laid}
 use Rattle.laws.proofs.Choices.{cond-ind}
-use Rattle.lines.specs.Lines.{zerosOf, tenDigits, decimalOf, fittingOf, Lined}
-
--- ---- numbers
-
-zeros-small : (n : ℕ) → zerosOf n ≤ 9
-unfolding zerosOf
-zeros-small n =
-    cond-ind Small (ltb n 10) (λ _. omega arith)
-    (λ _. cond-ind Small (ltb n 100) (λ _. omega arith)
-    (λ _. cond-ind Small (ltb n 1000) (λ _. omega arith)
-    (λ _. cond-ind Small (ltb n 10000) (λ _. omega arith)
-    (λ _. cond-ind Small (ltb n 100000) (λ _. omega arith)
-    (λ _. cond-ind Small (ltb n 1000000) (λ _. omega arith)
-    (λ _. cond-ind Small (ltb n 10000000) (λ _. omega arith)
-    (λ _. cond-ind Small (ltb n 100000000) (λ _. omega arith)
-    (λ _. cond-ind Small (ltb n 1000000000) (λ _. omega arith) (λ _. omega arith)))))))))
-  where
-    Small : ℕ → Type 0
-    Small k = k ≤ 9
-
-pub at-most-ten : (n : ℕ) {z : ℕ} → z ≡ zerosOf n → z ≤ 10
-at-most-ten n e = let k = zeros-small n in omega arith
+use Rattle.capture.specs.declared.Fed.{Fed}
+use Rattle.capture.specs.Reader.{Out, Meets}
+use Rattle.lines.proofs.Decimals.{zeros-within}
+use Rattle.lines.specs.Lines.{zerosOf, tenDigits, decimalOf, fittingOf, Laid, Lined}
 
 -- ---- layers
 
@@ -62,12 +44,15 @@ module _ (line entry : List ℕ) where
   written h e = told-by (ap (λ (b : Bool). cond b line []) (le-leb (length line) (length entry) h)) e
 
 -- a word, a number and a tail, of n with z leading zeros among its ten digits
-module _ (word tail entry : List ℕ) (n : ℕ) {z : ℕ} (zeros : z ≡ zerosOf n) where
+module _ (word tail entry : List ℕ) (n : ℕ) {digits : List ℕ} {z : ℕ} (ten : digits ≡ tenDigits n) (zeros : z ≡ zerosOf digits) where
   abbrev line : List ℕ
   line = word ++ (decimalOf n ++ tail)
 
+  pub at-most-ten : z ≤ 10
+  at-most-ten = let k = zeros-within digits in let l = ap length ten in omega arith
+
   number-length : length (decimalOf n) ≡ 10 - z
-  number-length = rw zeros (length-drop (zerosOf n) (tenDigits n))
+  number-length = rw (zeros, ten) (length-drop (zerosOf (tenDigits n)) (tenDigits n))
 
   line-length : length line ≡ length word + (10 - z) + length tail
   line-length =
@@ -85,8 +70,7 @@ module _ (word tail entry : List ℕ) (n : ℕ) {z : ℕ} (zeros : z ≡ zerosOf
   pub no-tail : length entry - (length word + (10 - z)) < length tail → Lined line 0 entry entry
   no-tail h = let k = line-length in too-long line entry (omega arith)
 
-  pub all-three : {digits l last last′ : List ℕ} → digits ≡ tenDigits n
-      → length word ≤ length entry → 10 - z ≤ length entry - length word → length tail ≤ length entry - (length word + (10 - z))
+  pub all-three : {l last last′ : List ℕ} → length word ≤ length entry → 10 - z ≤ length entry - length word → length tail ≤ length entry - (length word + (10 - z))
       → l ≡ take (length word) word ++ drop (length word) entry
       → (let middle : List ℕ = take (10 - z) (drop z digits) in
       let m : List ℕ = putMid (length word) (length l - length word) l last in
@@ -94,14 +78,15 @@ module _ (word tail entry : List ℕ) (n : ℕ) {z : ℕ} (zeros : z ≡ zerosOf
       last ≡ take (length middle) middle ++ drop (length middle) (take (length l - length word) (drop (length word) l))
       → last′ ≡ take (length tail) tail ++ drop (length tail) (take (length m - b) (drop b m))
       → Lined line (b + length tail) entry (putMid b (length m - b) m last′))
-  all-three {digits} {l} {last} {last′} ten h i j e f g =
+  all-three {l} {last} {last′} h i j e f g =
       let middle : List ℕ = take (10 - z) (drop z digits) in
       let m : List ℕ = putMid (length word) (length l - length word) l last in
       let b : ℕ = length word + (10 - z) in
       let number : middle ≡ decimalOf n
-      = rw (ten, zeros) (take-all (10 - zerosOf n) (decimalOf n) (simp length-drop (omega arith))) in
+      = rw (zeros, ten) (take-all (10 - zerosOf (tenDigits n)) (decimalOf n) (simp length-drop (omega arith))) in
       let long : length (word ++ middle) ≡ b = length-append word middle ∙ ap (λ (k : ℕ). length word + k) (ap length number ∙ number-length) in
-      let second : m ≡ (word ++ middle) ++ drop (length (word ++ middle)) entry = next-layer entry word l last middle (length word) refl (copied word entry e) f in
+      let second : m ≡ (word ++ middle) ++ drop (length (word ++ middle)) entry
+      = next-layer entry word l last middle (length word) refl (copied word entry e) f in
       let third = next-layer entry (word ++ middle) m last′ tail b long second g in
       let same : (word ++ middle) ++ tail ≡ line = append-assoc word middle tail ∙ ap (λ (x : List ℕ). word ++ (x ++ tail)) number in
       let k = line-length in
@@ -109,22 +94,28 @@ module _ (word tail entry : List ℕ) (n : ℕ) {z : ℕ} (zeros : z ≡ zerosOf
       (written line entry (omega arith) (third ∙ ap (λ (x : List ℕ). x ++ drop (length x) entry) same))
 
 -- two results that meet the promise are equal, and so are their buffers
-pub one-line : {line entry exit exit′ : List ℕ} {m n : ℕ} → Lined line m entry exit → Lined line n entry exit′ → (m ≡ n) × (exit ≡ exit′)
+pub one-line : {text entry exit exit′ : List ℕ} {m n : ℕ} → Laid text m entry exit → Laid text n entry exit′ → (m ≡ n) × (exit ≡ exit′)
 one-line p q = (p .told ∙ sym (q .told), p .buffer ∙ sym (q .buffer))
 
--- no more is counted than the room holds, and the room stays as long as it was
-pub within : {line entry exit : List ℕ} {count : ℕ} → Lined line count entry exit → count ≤ length entry
-within {line} {entry} p =
-    rw (p .told) (cond-ind (λ (l : List ℕ). length l ≤ length entry) (leb (length line) (length entry)) (λ h. leb-true (length line) (length entry) h) (λ _. omega arith))
+-- ---- room
 
-pub same-room : {line entry exit : List ℕ} {count : ℕ} → Lined line count entry exit → length exit ≡ length entry
-same-room {line} {entry} {exit} p =
-    let f : List ℕ = fittingOf line (length entry) in
-    let a : length exit ≡ length f + length (drop (length f) entry) = ap length (p .buffer) ∙ length-append f (drop (length f) entry) in
-    let b : length (drop (length f) entry) ≡ length entry - length f = length-drop (length f) entry in
-    let w = within p in
-    let t = p .told in
+pub fitting-short : (line : List ℕ) (room : ℕ) → length (fittingOf line room) ≤ room
+fitting-short line room =
+    cond-ind (λ (l : List ℕ). length l ≤ room) (leb (length line) room) (λ h. leb-true (length line) room h) (λ _. omega arith)
+
+-- a text that fits leaves the buffer as long as it was
+pub same-room : {text entry exit : List ℕ} {count : ℕ} → Laid text count entry exit → length text ≤ length entry → length exit ≡ length entry
+same-room {text} {entry} {exit} p h =
+    let a : length exit ≡ length text + length (drop (length text) entry) = ap length (p .buffer) ∙ length-append text (drop (length text) entry) in
+    let b : length (drop (length text) entry) ≡ length entry - length text = length-drop (length text) entry in
     omega arith
 
-pub inside : {line entry exit : List ℕ} {count : ℕ} → Lined line count entry exit → count ≤ length exit
-inside p = rw (same-room p) (within p)
+-- what stands in front of a buffer is within it
+in-front : (text rest : List ℕ) {exit : List ℕ} {count : ℕ} → count ≡ length text → exit ≡ text ++ rest → count ≤ length exit
+in-front text rest t e = let a = ap length e ∙ length-append text rest in omega arith
+
+pub inside : {text entry exit : List ℕ} {count : ℕ} → Laid text count entry exit → count ≤ length exit
+inside {text} {entry} p = in-front text (drop (length text) entry) (p .told) (p .buffer)
+
+pub answers-inside : {o : Out} {r : Fed} {entry exit : List ℕ} → Meets o r entry exit → r .written ≤ length exit
+answers-inside {o} {entry = entry} p = in-front (o .answers) (drop (length (o .answers)) entry) (p .written) (p .buffer)

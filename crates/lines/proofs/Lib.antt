@@ -1,1 +1,7 @@
+pub mod Decimals
 pub mod Layers
+pub mod Blocks
+pub mod Numbered
+pub mod Fours
+pub mod Turns
+pub mod Endings

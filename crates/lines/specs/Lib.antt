@@ -1,3 +1,5 @@
 pub mod Lines
+pub mod Decimal
+pub mod Turns
 pub mod Listing
 pub mod Examples

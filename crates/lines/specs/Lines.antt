@@ -1,10 +1,10 @@
 -- Listing in full: a record's line, the end line, and the listing of a capture, as bytes.
 -- Assumes nothing.
-use Prim.Native.Nat.{ℕ, _+_, _/_, _%_}
+use Prim.Native.Nat.{ℕ, _+_, _-_, _/_, _%_, _^_}
 use mathlib.Core.Path.{_≡_}
 use mathlib.Core.Bool.{cond}
 use mathlib.Core.List.{List, [], _∷_, _++_}
-use lib.Dec.{ltb, leb}
+use lib.Dec.{ltb, leb, eqb}
 use lib.ListN.{length, drop}
 use Rattle.capture.specs.Whole.{wholeOf}
 
@@ -24,23 +24,15 @@ tenDigits n =
     digitOf (n / 1000000000) ∷ digitOf (n / 100000000) ∷ digitOf (n / 10000000) ∷ digitOf (n / 1000000) ∷ digitOf (n / 100000)
     ∷ digitOf (n / 10000) ∷ digitOf (n / 1000) ∷ digitOf (n / 100) ∷ digitOf (n / 10) ∷ digitOf n ∷ []
 
--- how many of them are leading zeros; the last digit always stands
-unfoldable pub zerosOf : ℕ → ℕ
-zerosOf n =
-    cond (ltb n 10) 9
-    (cond (ltb n 100) 8
-    (cond (ltb n 1000) 7
-    (cond (ltb n 10000) 6
-    (cond (ltb n 100000) 5
-    (cond (ltb n 1000000) 4
-    (cond (ltb n 10000000) 3
-    (cond (ltb n 100000000) 2
-    (cond (ltb n 1000000000) 1
-    0))))))))
+-- how many of a row of digits are leading zeros; the last one always stands
+unfoldable pub zerosOf : List ℕ → ℕ
+zerosOf [] = 0
+zerosOf (d ∷ []) = 0
+zerosOf (d ∷ e ∷ digits) = cond (eqb d 48) (zerosOf (e ∷ digits) + 1) 0
 
 -- a number below 10^10, with no leading zeros; a record count is below 2^32
 abbrev pub decimalOf : ℕ → List ℕ
-decimalOf n = drop (zerosOf n) (tenDigits n)
+decimalOf n = drop (zerosOf (tenDigits n)) (tenDigits n)
 
 -- ---- lines: 32 is a blank, 10 a line feed
 
@@ -77,11 +69,29 @@ listingOf answers done finishing = linesOf 1 answers ++ endLineOf done finishing
 abbrev pub captureListingOf : List ℕ → List ℕ
 captureListingOf capture = listingOf (wholeOf capture .answers) (wholeOf capture .reader .done) (wholeOf capture .finishing)
 
--- ---- what a writer of a line promises: the line if there is room for it, else nothing; how many bytes; the rest of the buffer as it was
+-- ---- what a writer of lines promises: a text to the front of the lent buffer, how many bytes, and the rest of the buffer as it was
 
+pub record Laid (text : List ℕ) (count : ℕ) (entry exit : List ℕ) : Type 0 where
+  pub told : count ≡ length text
+  pub buffer : exit ≡ text ++ drop (length text) entry
+
+-- a line if there is room for it, else nothing
 abbrev pub fittingOf : List ℕ → ℕ → List ℕ
 fittingOf line room = cond (leb (length line) room) line []
 
-pub record Lined (line : List ℕ) (count : ℕ) (entry exit : List ℕ) : Type 0 where
-  pub told : count ≡ length (fittingOf line (length entry))
-  pub buffer : exit ≡ fittingOf line (length entry) ++ drop (length (fittingOf line (length entry))) entry
+abbrev pub Lined : List ℕ → ℕ → List ℕ → List ℕ → Type 0
+Lined line count entry exit = Laid (fittingOf line (length entry)) count entry exit
+
+-- the number of the next record; a number has 32 bits, and goes round
+abbrev pub nextOf : ℕ → ℕ
+nextOf n = (n + 1) % 2 ^ 32
+
+-- the lines of answers, numbered from n: as many whole lines as there is room for
+unfoldable pub fittingLinesOf : ℕ → ℕ → List ℕ → List ℕ
+fittingLinesOf room n [] = []
+fittingLinesOf room n (a ∷ []) = []
+fittingLinesOf room n (a ∷ b ∷ answers) =
+    cond (leb (length (lineOf n a b)) room) (lineOf n a b ++ fittingLinesOf (room - length (lineOf n a b)) (nextOf n) answers) []
+
+abbrev pub Listed : ℕ → List ℕ → ℕ → List ℕ → List ℕ → Type 0
+Listed n answers count entry exit = Laid (fittingLinesOf (length entry) n answers) count entry exit

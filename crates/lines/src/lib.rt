@@ -1,34 +1,7 @@
 // The listing's lines, as bytes in a lent buffer.
 ghost use mathlib.Core.Path.{_≡_};
 ghost use mathlib.Core.List.{_++_};
-ghost use Rattle.lines.specs.Lines.{zerosOf, digitOf, hexOf, tenDigits, decimalOf, lineOf, endLineOf, Lined};
-
-// How many of ten digits are leading zeros.
-fn zeros(n: u32) -> usize
-    ensures { λ r. ⌜ r ≡ zerosOf n ⌝ }
-{
-    if n < 10 {
-        9
-    } else if n < 100 {
-        8
-    } else if n < 1000 {
-        7
-    } else if n < 10000 {
-        6
-    } else if n < 100000 {
-        5
-    } else if n < 1000000 {
-        4
-    } else if n < 10000000 {
-        3
-    } else if n < 100000000 {
-        2
-    } else if n < 1000000000 {
-        1
-    } else {
-        0
-    }
-}
+ghost use Rattle.lines.specs.Lines.{digitOf, hexOf, tenDigits, zerosOf, decimalOf, lineOf, endLineOf, Lined, Listed};
 
 fn digit(n: u32) -> u8
     ensures { λ r. ⌜ r ≡ digitOf n ⌝ }
@@ -60,12 +33,26 @@ fn ten(n: u32) -> [u8; 10]
     ]
 }
 
+// How many of the digits are leading zeros; the last one always stands.
+fn zeros(digits: [u8; 10]) -> usize
+    ensures { λ r. ⌜ r ≡ zerosOf digits ⌝ }
+{
+    let mut z: usize = 0;
+    while z < 9 {
+        if digits[z] != b'0' {
+            break;
+        }
+        z += 1;
+    }
+    z
+}
+
 // A word, a number and a tail to the front of the room, if they fit; how many bytes.
 fn put(word: &[u8], n: u32, tail: &[u8], room: &mut [u8]) -> usize
     ensures { λ r. ⌜ Lined (now (word .entry) ++ (decimalOf n ++ now (tail .entry))) r (now (room .entry)) (now (room .exit)) ⌝ }
 {
     let digits = ten(n);
-    let skip = zeros(n);
+    let skip = zeros(digits);
     let size = room.len();
     let a = word.len();
     if size < a {
@@ -99,6 +86,27 @@ pub fn record_line(n: u32, first: u8, second: u8, room: &mut [u8]) -> usize
         b'\n',
     ];
     put(&word, n, &tail, room)
+}
+
+// The lines of a call's answers, numbered from `first` on: as many whole lines as there is room for; how many bytes.
+pub fn record_lines(answers: &[u8], first: u32, room: &mut [u8]) -> usize
+    ensures { λ r. ⌜ Listed first (now (answers .entry)) r (now (room .entry)) (now (room .exit)) ⌝ }
+{
+    let mut i: usize = 0;
+    let mut size: usize = 0;
+    let mut n = first;
+    while answers.len() - i >= 2 {
+        let a = answers[i];
+        let b = answers[i + 1];
+        let line = record_line(n, a, b, &mut room[size..]);
+        if line == 0 {
+            break;
+        }
+        size += line;
+        n = std::num::wrapping_add_u32(n, 1);
+        i += 2;
+    }
+    size
 }
 
 // The end line: records done and finishing code; 0 where there is no room for it.

@@ -3,28 +3,6 @@ use capture::Reader;
 use libc::STDERR_FILENO;
 use libc::STDIN_FILENO;
 use libc::STDOUT_FILENO;
-ghost use Rattle.io.specs.Counts.{Counts};
-
-// The lines of the answers written, numbered from `first` on: how many bytes of text.
-fn block(answers: &[u8], written: usize, first: u32, text: &mut [u8]) -> usize
-    ensures { λ r. ⌜ Counts r (now (text .exit)) ⌝ }
-{
-    let mut i: usize = 0;
-    let mut size: usize = 0;
-    let mut n = first;
-    while i < answers.len() {
-        if answers.len() - i < 2 {
-            break;
-        }
-        if written <= i {
-            break;
-        }
-        size += lines::record_line(n, answers[i], answers[i + 1], &mut text[size..]);
-        n = std::num::wrapping_add_u32(n, 1);
-        i += 2;
-    }
-    size
-}
 
 // The reader after a turn; whether another turn follows; whether the end line does.
 struct Went {
@@ -42,12 +20,12 @@ fn fails(reader: Reader, message: &[u8]) -> Went {
     }
 }
 
-// Reads once, feeds what came and writes its lines. There is room for all of them: 65,536 bytes and three carried ones hold
-// 16,384 records, of two answer bytes and a line of at most 18 bytes each.
+// Reads once, feeds what came and writes its lines. There is room for all of them: 65,536 bytes and three carried ones hold at
+// most 16,384 records, of two answer bytes and a line of at most 17 bytes each.
 fn turn(reader: Reader) -> Went {
     let mut bytes = io::large_buffer();
     let mut answers = [0; 32768];
-    let mut text = [0; 294912];
+    let mut text = [0; 278528];
     let got = libc::read(STDIN_FILENO, &mut bytes);
     if got < 0 {
         return fails(
@@ -57,12 +35,8 @@ fn turn(reader: Reader) -> Went {
     }
     let count = io::count(got, &bytes);
     let fed = capture::feed(reader, &bytes[..count], &mut answers);
-    let size = block(
-        &answers,
-        fed.written,
-        std::num::wrapping_add_u32(reader.done, 1),
-        &mut text,
-    );
+    let first = std::num::wrapping_add_u32(reader.done, 1);
+    let size = lines::record_lines(&answers[..fed.written], first, &mut text);
     let after = fed.reader;
     if !io::write_all(STDOUT_FILENO, &text[..size]) {
         return fails(
@@ -95,7 +69,7 @@ fn main() {
     let last = all();
     if last.ends {
         let reader = last.reader;
-        let mut text = [0; 18];
+        let mut text = [0; 17];
         let size = lines::end_line(reader.done, capture::finish(reader), &mut text);
         io::write_all(STDOUT_FILENO, &text[..size]);
     }

@@ -11,16 +11,28 @@ zeros-requires : tie.Need-zeros-requires
 zeros-requires c κs = search needs
 
 returns : tie.Need-returns
-returns c = no-word (c .before .before .before .before .before .before .args .word .now) (c .before .before .before .before .before .before .args .tail .now) (c .before .before .before .before .before .before .args .room .now) (c .before .before .before .before .before .before .args .n) (c .before .zeros .ensures) (c .if1 .taken)
+returns c =
+    let z = c .before in
+    let s = z .before .before .before .before .before in
+    no-word (s .args .word .now) (s .args .tail .now) (s .args .room .now) (s .args .n) (z .before .ten .ensures) (z .zeros .ensures) (c .if1 .taken)
 
 sub-if2 : tie.Need-sub-if2
-sub-if2 c = at-most-ten (c .before .before .before .before .before .before .args .n) (c .before .zeros .ensures)
+sub-if2 c =
+    let z = c .before in
+    let s = z .before .before .before .before .before in
+    at-most-ten (s .args .word .now) (s .args .tail .now) (s .args .room .now) (s .args .n) (z .before .ten .ensures) (z .zeros .ensures)
 
 returns-2 : tie.Need-returns-2
-returns-2 c = no-number (c .before .before .before .before .before .before .before .args .word .now) (c .before .before .before .before .before .before .before .args .tail .now) (c .before .before .before .before .before .before .before .args .room .now) (c .before .before .before .before .before .before .before .args .n) (c .before .before .zeros .ensures) (c .if2 .taken)
+returns-2 c =
+    let z = c .before .before in
+    let s = z .before .before .before .before .before in
+    no-number (s .args .word .now) (s .args .tail .now) (s .args .room .now) (s .args .n) (z .before .ten .ensures) (z .zeros .ensures) (c .if2 .taken)
 
 sub-b : tie.Need-sub-b
-sub-b c = at-most-ten (c .before .before .before .before .before .before .before .args .n) (c .before .before .zeros .ensures)
+sub-b c =
+    let z = c .before .before in
+    let s = z .before .before .before .before .before in
+    at-most-ten (s .args .word .now) (s .args .tail .now) (s .args .room .now) (s .args .n) (z .before .ten .ensures) (z .zeros .ensures)
 
 add-b : tie.Need-add-b
 add-b c = search needs
@@ -29,16 +41,25 @@ sub-if3 : tie.Need-sub-if3
 sub-if3 c = search needs
 
 returns-3 : tie.Need-returns-3
-returns-3 c = no-tail (c .before .before .before .before .before .before .before .before .args .word .now) (c .before .before .before .before .before .before .before .before .args .tail .now) (c .before .before .before .before .before .before .before .before .args .room .now) (c .before .before .before .before .before .before .before .before .args .n) (c .before .before .before .zeros .ensures) (c .if3 .taken)
+returns-3 c =
+    let z = c .before .before .before in
+    let s = z .before .before .before .before .before in
+    no-tail (s .args .word .now) (s .args .tail .now) (s .args .room .now) (s .args .n) (z .before .ten .ensures) (z .zeros .ensures) (c .if3 .taken)
 
 copy-requires : tie.Need-copy-requires
 copy-requires c κs = search needs
 
 sub-copy : tie.Need-sub-copy
-sub-copy c = at-most-ten (c .before .before .before .before .before .before .before .before .before .before .before .before .args .n) (c .before .before .before .before .before .before .before .zeros .ensures)
+sub-copy c =
+    let z = c .before .before .before .before .before .before .before in
+    let s = z .before .before .before .before .before in
+    at-most-ten (s .args .word .now) (s .args .tail .now) (s .args .room .now) (s .args .n) (z .before .ten .ensures) (z .zeros .ensures)
 
 part-copy-start : tie.Need-part-copy-start
-part-copy-start c = at-most-ten (c .before .before .before .before .before .before .before .before .before .before .before .before .before .args .n) (c .before .before .before .before .before .before .before .before .zeros .ensures)
+part-copy-start c =
+    let z = c .before .before .before .before .before .before .before .before in
+    let s = z .before .before .before .before .before in
+    at-most-ten (s .args .word .now) (s .args .tail .now) (s .args .room .now) (s .args .n) (z .before .ten .ensures) (z .zeros .ensures)
 
 part-copy-end : tie.Need-part-copy-end
 part-copy-end c = search needs
@@ -75,8 +96,11 @@ same-length c = search needs
 
 returns-4 : tie.Need-returns-4
 returns-4 c =
-    all-three (c .before .before .before .before .before .before .before .before .before .before .before .before .before .before .before .before .before .before .before .before .before .before .args .word .now) (c .before .before .before .before .before .before .before .before .before .before .before .before .before .before .before .before .before .before .before .before .before .before .args .tail .now) (c .before .before .before .before .before .before .before .before .before .before .before .before .before .before .before .before .before .before .before .before .before .before .args .room .now) (c .before .before .before .before .before .before .before .before .before .before .before .before .before .before .before .before .before .before .before .before .before .before .args .n)
-    (c .before .before .before .before .before .before .before .before .before .before .before .before .before .before .before .before .before .zeros .ensures) (c .before .before .before .before .before .before .before .before .before .before .before .before .before .before .before .before .before .before .ten .ensures) (c .before .before .before .before .before .before .before .before .before .before .before .before .before .before .before .before .if1 .left) (c .before .before .before .before .before .before .before .before .before .before .before .before .before .before .before .if2 .left) (c .before .before .before .before .before .before .before .before .before .before .before .before .before .before .if3 .left)
+    let tests = c .before .before .before .before .before .before .before .before .before .before .before .before .before .before in
+    let z = tests .before .before .before in
+    let s = z .before .before .before .before .before in
+    all-three (s .args .word .now) (s .args .tail .now) (s .args .room .now) (s .args .n) (z .before .ten .ensures) (z .zeros .ensures)
+    (tests .before .before .if1 .left) (tests .before .if2 .left) (tests .if3 .left)
     (c .before .before .before .before .before .before .before .before .before .before .before .before .copy .ensures .1) (c .before .before .before .before .before .before .copy2 .ensures .1) (c .before .before .copy3 .ensures .1)
 
 pub put-spec : {M : Type 1} → statement M

@@ -34,7 +34,7 @@ digit-requires-10 : tie.Need-digit-requires-10
 digit-requires-10 c κs = search needs
 
 returns : tie.Need-returns
-returns c = rw (c .digit10 .ensures, c .before .digit9 .ensures, c .before .before .digit8 .ensures, c .before .before .before .digit7 .ensures, c .before .before .before .before .digit6 .ensures, c .before .before .before .before .before .digit5 .ensures, c .before .before .before .before .before .before .digit4 .ensures, c .before .before .before .before .before .before .before .digit3 .ensures, c .before .before .before .before .before .before .before .before .digit2 .ensures, c .before .before .before .before .before .before .before .before .before .digit .ensures)
+returns c = cc
 
 pub ten-spec : {M : Type 1} → statement M
 ten-spec =

@@ -1,60 +1,63 @@
--- Assumes nothing.
-use borrow.Author.Tests.{lt-ltb, le-ltb}
+-- Before each digit: the zeros passed, and those from there on, are all. Assumes nothing.
+use borrow.Author.Needs.{needs}
+use Prim.Native.Nat.{_+_, _-_, _≤_, _<_}
+use mathlib.Core.Path.{_≡_}
+use native.Mathlib.Omega.{arith}
+use lib.ListN.{length, drop}
 use Rattle.lines.specs.Lines.{zerosOf}
+use Rattle.lines.proofs.Decimals.{one-zero, no-zero, last-stands}
 use Rattle.lines.proofs.zeros.Statement.{statement}
 use Rattle.lines.proofs.zeros.Tie as tie
 
-returns : tie.Need-returns
-unfolding zerosOf
-returns c = rw (lt-ltb _ _ (c .if1 .taken))
+abbrev Inv-loop : tie.InvT-loop
+Inv-loop digits z₀ z = (z ≤ 9) × (length digits ≡ 10) × (zerosOf digits ≡ z + zerosOf (drop z digits))
 
-returns-2 : tie.Need-returns-2
-unfolding zerosOf
-returns-2 c = rw (le-ltb _ _ (c .before .if1 .left), lt-ltb _ _ (c .if2 .taken))
+abbrev μ-loop : tie.MeasureT-loop
+μ-loop digits z₀ z = 9 - z
 
-returns-3 : tie.Need-returns-3
-unfolding zerosOf
-returns-3 c = rw (le-ltb _ _ (c .before .before .if1 .left), le-ltb _ _ (c .before .if2 .left), lt-ltb _ _ (c .if3 .taken))
+loop-holds : tie.Need-loop-holds Inv-loop μ-loop
+loop-holds c = (omega arith, search needs, omega arith)
 
-returns-4 : tie.Need-returns-4
-unfolding zerosOf
-returns-4 c = rw (le-ltb _ _ (c .before .before .before .if1 .left), le-ltb _ _ (c .before .before .if2 .left), le-ltb _ _ (c .before .if3 .left), lt-ltb _ _ (c .if4 .taken))
+array-read-if1 : tie.Need-array-read-if1 Inv-loop μ-loop
+array-read-if1 c = search needs
 
-returns-5 : tie.Need-returns-5
-unfolding zerosOf
-returns-5 c = rw (le-ltb _ _ (c .before .before .before .before .if1 .left), le-ltb _ _ (c .before .before .before .if2 .left), le-ltb _ _ (c .before .before .if3 .left), le-ltb _ _ (c .before .if4 .left), lt-ltb _ _ (c .if5 .taken))
+add-z : tie.Need-add-z Inv-loop μ-loop
+add-z c = search needs
 
-returns-6 : tie.Need-returns-6
-unfolding zerosOf
-returns-6 c = rw (le-ltb _ _ (c .before .before .before .before .before .if1 .left), le-ltb _ _ (c .before .before .before .before .if2 .left), le-ltb _ _ (c .before .before .before .if3 .left), le-ltb _ _ (c .before .before .if4 .left), le-ltb _ _ (c .before .if5 .left), lt-ltb _ _ (c .if6 .taken))
+loop-less : tie.Need-loop-less Inv-loop μ-loop
+loop-less c = search needs
 
-returns-7 : tie.Need-returns-7
-unfolding zerosOf
-returns-7 c = rw (le-ltb _ _ (c .before .before .before .before .before .before .if1 .left), le-ltb _ _ (c .before .before .before .before .before .if2 .left), le-ltb _ _ (c .before .before .before .before .if3 .left), le-ltb _ _ (c .before .before .before .if4 .left), le-ltb _ _ (c .before .before .if5 .left), le-ltb _ _ (c .before .if6 .left), lt-ltb _ _ (c .if7 .taken))
+loop-again : tie.Need-loop-again Inv-loop μ-loop
+loop-again c =
+    let l = c .before .before .loop in
+    let digits = c .before .before .before .args .t1 in
+    let h : l .z + 1 < length digits = omega arith in
+    (omega arith, l .inv .1, omega (arith, one-zero digits (l .z) h (c .if1 .left)))
 
-returns-8 : tie.Need-returns-8
-unfolding zerosOf
-returns-8 c = rw (le-ltb _ _ (c .before .before .before .before .before .before .before .if1 .left), le-ltb _ _ (c .before .before .before .before .before .before .if2 .left), le-ltb _ _ (c .before .before .before .before .before .if3 .left), le-ltb _ _ (c .before .before .before .before .if4 .left), le-ltb _ _ (c .before .before .before .if5 .left), le-ltb _ _ (c .before .before .if6 .left), le-ltb _ _ (c .before .if7 .left), lt-ltb _ _ (c .if8 .taken))
+returns : tie.Need-returns Inv-loop μ-loop
+returns c =
+    let l = c .before .loop in
+    let digits = c .before .before .args .t1 in
+    let h : length digits ≤ l .z + 1 = omega arith in
+    omega (arith, last-stands digits (l .z) h)
 
-returns-9 : tie.Need-returns-9
-unfolding zerosOf
-returns-9 c = rw (le-ltb _ _ (c .before .before .before .before .before .before .before .before .if1 .left), le-ltb _ _ (c .before .before .before .before .before .before .before .if2 .left), le-ltb _ _ (c .before .before .before .before .before .before .if3 .left), le-ltb _ _ (c .before .before .before .before .before .if4 .left), le-ltb _ _ (c .before .before .before .before .if5 .left), le-ltb _ _ (c .before .before .before .if6 .left), le-ltb _ _ (c .before .before .if7 .left), le-ltb _ _ (c .before .if8 .left), lt-ltb _ _ (c .if9 .taken))
-
-returns-10 : tie.Need-returns-10
-unfolding zerosOf
-returns-10 c = rw (le-ltb _ _ (c .before .before .before .before .before .before .before .before .if1 .left), le-ltb _ _ (c .before .before .before .before .before .before .before .if2 .left), le-ltb _ _ (c .before .before .before .before .before .before .if3 .left), le-ltb _ _ (c .before .before .before .before .before .if4 .left), le-ltb _ _ (c .before .before .before .before .if5 .left), le-ltb _ _ (c .before .before .before .if6 .left), le-ltb _ _ (c .before .before .if7 .left), le-ltb _ _ (c .before .if8 .left), le-ltb _ _ (c .if9 .left))
+returns-2 : tie.Need-returns-2 Inv-loop μ-loop
+returns-2 c =
+    let l = c .before .before .loop in
+    let digits = c .before .before .before .args .t1 in
+    let h : l .z + 1 < length digits = omega arith in
+    omega (arith, no-zero digits (l .z) h (c .if1 .taken))
 
 pub zeros-spec : {M : Type 1} → statement M
 zeros-spec =
     tie.close
     (tie.spec
+    Inv-loop
+    μ-loop
+    loop-holds
+    array-read-if1
+    add-z
+    loop-less
+    loop-again
     returns
-    returns-2
-    returns-3
-    returns-4
-    returns-5
-    returns-6
-    returns-7
-    returns-8
-    returns-9
-    returns-10)
+    returns-2)

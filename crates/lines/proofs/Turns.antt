@@ -1,0 +1,128 @@
+-- `lists`: what the program's turns and its end line write is the listing of the whole capture, whatever the parts it was read in and
+-- whatever it left unread. `never-full`: the program's buffers hold all that a turn gives.
+-- Assumes nothing.
+use Prim.Native.Nat.{ℕ, _+_, _*_}
+use mathlib.Core.Path.{_≡_, refl, sym, ap, _∙_}
+use mathlib.Core.Bool.{true}
+use mathlib.Core.List.{List, [], _++_, append-assoc, append-nil}
+use native.Mathlib.Omega.{arith}
+use lib.ListN.{length, take, drop}
+use lib.Seq.{take-at}
+use borrow.Author.Tests.{leb-true}
+use Rattle.capture.specs.declared.Reader.{Reader}
+use Rattle.capture.specs.declared.Fed.{Fed}
+use Rattle.capture.specs.Reader.{Out, freshOf, callOf, finishOf, rangesOf, Meets}
+use Rattle.capture.specs.Whole.{wholeOf}
+use Rattle.capture.specs.Schedule.{joined, Bytes}
+use Rattle.capture.proofs.Cuts.{fresh-ranges, bytes-left, bytes-right}
+use Rattle.capture.proofs.InRange.{ranges}
+use Rattle.capture.proofs.Rooms.{feed-fits}
+use Rattle.capture.proofs.Run.{runOf, run-append, run-held, run-ranges}
+use Rattle.capture.proofs.Sections.{whole-run, whole-finishing}
+use Rattle.lines.specs.Lines.{linesOf, endLineOf, captureListingOf}
+use Rattle.lines.specs.Turns.{Turn, Turns, Output}
+use Rattle.lines.specs.Turns.Turns.{at-end, refused, goes-on}
+use Rattle.lines.proofs.Numbered.{laid-front, lined-front, end-short, not-round, lines-all, lines-append}
+use Rattle.lines.proofs.Fours.{run-even, run-code, answers-fit, done-fits}
+
+-- ---- one turn
+
+module _ {s : Reader} {part text : List ℕ} {r : Fed} (t : Turn s part r text) (k : Bytes part) (h : rangesOf s ≡ true) where
+  -- the call is the run, with room for every answer
+  call-run : callOf s part (length (t .lent)) ≡ runOf s part
+  call-run =
+      let fit = answers-fit s part h (t .read) in
+      let room = t .room in
+      rw h (feed-fits s part (length (t .lent)) (omega arith))
+
+  fed-run : Meets (runOf s part) r (t .lent) (t .answers)
+  fed-run = rw call-run at (t .fed)
+
+  pub fed-answers : take (r .written) (t .answers) ≡ runOf s part .answers
+  fed-answers =
+      let m = fed-run in
+      let all = runOf s part .answers in
+      ap (take (r .written)) (m .buffer) ∙ take-at all (drop (length all) (t .lent)) (r .written) (sym (m .written))
+
+  -- and its text is all lines of the answers
+  pub turn-text : text ≡ linesOf (s .done + 1) (runOf s part .answers)
+  turn-text =
+      let all = runOf s part .answers in
+      let few = answers-fit s part h (t .read) in
+      let small = done-fits s part h k in
+      let even = run-even s part in
+      let wide = t .wide in
+      let fit = lines-all (length (t .blank)) (s .done + 1) all (omega arith) (omega arith) in
+      t .written ∙ laid-front (t .listed) ∙ rw fed-answers (not-round (length (t .blank)) (s .done) all small fit)
+
+  -- the buffers hold all that a turn gives: it never asks for more room, and leaves no line out
+  pub never-full : (r .code ≡ 7 → ⊥) × (text ≡ linesOf (s .done + 1) (take (r .written) (t .answers)))
+  never-full = (
+    λ e.
+        let m = fed-run in
+        let last = runOf s part .reader in
+        omega (arith, run-code s part, leb-true (last .held) 5 (ranges last (run-ranges s part k h) .held)),
+    rw fed-answers turn-text,
+  )
+
+-- ---- turns in order
+
+-- a text and a state that are the lines and the end of a run
+record Lists (s : Reader) (xs text : List ℕ) (last : Reader) : Type 0 where
+  text-is : text ≡ linesOf (s .done + 1) (runOf s xs .answers)
+  last-is : last ≡ runOf s xs .reader
+
+one-turn : {s : Reader} {part text : List ℕ} {r : Fed} → Turn s part r text → Bytes part → rangesOf s ≡ true → Lists s part text (r .reader)
+one-turn t k h = record { text-is = turn-text t k h; last-is = fed-run t k h .reader }
+
+-- a run, and then one from the state that it left
+after-run : (xs ys : List ℕ) {s middle last : Reader} {text texts : List ℕ} → Lists s xs text middle → Lists middle ys texts last
+    → Lists s (xs ++ ys) (text ++ texts) last
+after-run xs ys {s} {middle} {last} {text} {texts} p q =
+    let t = runOf s xs .reader in
+    let first = runOf s xs .answers in
+    let second = runOf t ys .answers in
+    let joins = sym (run-append s xs ys) in
+    let next : Lists t ys texts last = rw (p .last-is) at q in
+    let numbers : (t .done + 1) * 2 ≡ (s .done + 1) * 2 + length first = let e = run-even s xs in omega arith in
+    let lines = sym (lines-append (t .done + 1) (s .done + 1) first second numbers) in
+    record {
+      text-is = rw (p .text-is, next .text-is) (lines ∙ ap (λ (o : Out). linesOf (s .done + 1) (o .answers)) joins);
+      last-is = next .last-is ∙ ap (λ (o : Out). o .reader) joins;
+    }
+
+-- after a lasting code the rest changes nothing
+held-rest : (s : Reader) (rest : List ℕ) → (s .held ≡ 0 → ⊥) → Lists s rest [] s
+held-rest s rest n = let e = run-held s rest n in record { text-is = rw e refl; last-is = rw e refl }
+
+turns-list : {s last : Reader} {parts : List (List ℕ)} {rest text : List ℕ} → Turns s parts rest text last → Bytes (joined parts ++ rest)
+    → rangesOf s ≡ true → Lists s (joined parts ++ rest) text last
+turns-list (at-end {part = part} t) k h = rw (append-nil (part ++ []), append-nil part) (one-turn t (rw (append-nil (part ++ []), append-nil part) at k) h)
+turns-list (refused {s = s} {part = part} {rest = rest} {text = text} {r = r} t n) k h =
+    let b = bytes-left part rest (rw (append-nil part) at k) in
+    let held : r .reader .held ≡ 0 → ⊥ = λ z. n (fed-run t b h .code ∙ run-code s part ∙ ap (λ (u : Reader). u .held) (sym (fed-run t b h .reader)) ∙ z) in
+    rw (append-nil part) (rw (append-nil text) at (after-run part rest (one-turn t b h) (held-rest (r .reader) rest held)))
+turns-list (goes-on {s = s} {part = part} {rest = rest} {parts = parts} t z turns) k h =
+    let bytes = rw (append-assoc part (joined parts) rest) at k in
+    let b = bytes-left part (joined parts ++ rest) bytes in
+    let p = one-turn t b h in
+    let q = turns-list turns (bytes-right part (joined parts ++ rest) bytes) (rw (p .last-is) (run-ranges s part b h)) in
+    rw (append-assoc part (joined parts) rest) (after-run part (joined parts ++ rest) p q)
+
+-- ---- the theorem
+
+pub lists : {parts : List (List ℕ)} {rest output : List ℕ} → Output parts rest output → Bytes (joined parts ++ rest)
+    → output ≡ captureListingOf (joined parts ++ rest)
+lists {parts} {rest} o k =
+    let capture : List ℕ = joined parts ++ rest in
+    let p = turns-list (o .turns) k fresh-ranges in
+    let run = whole-run capture in
+    let text : o .text ≡ linesOf 1 (wholeOf capture .answers) = p .text-is ∙ ap (λ (w : Out). linesOf 1 (w .answers)) run in
+    let reader : runOf freshOf capture .reader ≡ wholeOf capture .reader = ap (λ (w : Out). w .reader) run in
+    let last : o .last ≡ wholeOf capture .reader = p .last-is ∙ reader in
+    let in-ranges : rangesOf (wholeOf capture .reader) ≡ true = rw reader at (run-ranges freshOf capture k fresh-ranges) in
+    let finishing : finishOf (o .last) ≡ wholeOf capture .finishing = rw (last, in-ranges) (whole-finishing capture) in
+    let short = end-short (o .last .done) (finishOf (o .last)) in
+    let wide = o .wide in
+    let end = lined-front (endLineOf (o .last .done) (finishOf (o .last))) (omega arith) (o .lined) in
+    o .written ∙ (λ i. text i ++ (end ∙ (λ j. endLineOf (last j .done) (finishing j))) i)

@@ -1,0 +1,79 @@
+-- The listing program's turns over a capture, and what they write. A call is known by what it promises, and by nothing else.
+-- Assumes nothing.
+use Prim.Native.Nat.{ℕ, _≤_}
+use mathlib.Core.Path.{_≡_}
+use mathlib.Core.List.{List, [], _∷_, _++_}
+use lib.ListN.{length, take}
+use Rattle.capture.specs.declared.Reader.{Reader}
+use Rattle.capture.specs.declared.Fed.{Fed}
+use Rattle.capture.specs.Reader.{freshOf, finishOf, FedWith}
+use Rattle.capture.specs.Schedule.{joined}
+use Rattle.lines.specs.Lines.{endLineOf, nextOf, Lined, Listed}
+
+-- ---- the program's buffers
+
+-- bytes read at once, at most
+abbrev pub readMost : ℕ
+readMost = 65536
+
+-- these, and three carried ones, hold at most 16,384 records, of two answer bytes and a line of at most 17 bytes each
+abbrev pub answerRoom : ℕ
+answerRoom = 32768
+
+abbrev pub textRoom : ℕ
+textRoom = 278528
+
+abbrev pub endRoom : ℕ
+endRoom = 17
+
+-- ---- turns
+
+-- one turn: a part is read and fed, and the lines of its answers are written, numbered on from the records done before it
+pub record Turn (s : Reader) (part : List ℕ) (r : Fed) (text : List ℕ) : Type 0 where
+  pub lent : List ℕ
+  pub answers : List ℕ
+  pub blank : List ℕ
+  pub page : List ℕ
+  pub size : ℕ
+  pub read : length part ≤ readMost
+  pub room : answerRoom ≤ length lent
+  pub fed : FedWith s part r lent answers
+  pub wide : textRoom ≤ length blank
+  pub listed : Listed (nextOf (s .done)) (take (r .written) answers) size blank page
+  pub written : text ≡ take size page
+
+-- turns in order, each from the state that the one before it left, while the code is 0. The last one is at the end of the input, with
+-- nothing unread, or has a code other than 0, and leaves a rest unread
+pub data Turns : Reader → List (List ℕ) → List ℕ → List ℕ → Reader → Type 0 where
+  at-end : {s : Reader} {part text : List ℕ} {r : Fed} → Turn s part r text → Turns s (part ∷ []) [] text (r .reader)
+  refused : {s : Reader} {part rest text : List ℕ} {r : Fed} → Turn s part r text → (r .code ≡ 0 → ⊥) → Turns s (part ∷ []) rest text (r .reader)
+  goes-on : {s last : Reader} {part rest text texts : List ℕ} {parts : List (List ℕ)} {r : Fed} → Turn s part r text → r .code ≡ 0
+      → Turns (r .reader) parts rest texts last → Turns s (part ∷ parts) rest (text ++ texts) last
+
+-- ---- the output: the texts of the turns from a fresh state, in order, and the end line of the state that they leave
+
+pub record Output (parts : List (List ℕ)) (rest output : List ℕ) : Type 0 where
+  pub text : List ℕ
+  pub last : Reader
+  pub blank : List ℕ
+  pub page : List ℕ
+  pub size : ℕ
+  pub turns : Turns freshOf parts rest text last
+  pub wide : endRoom ≤ length blank
+  pub lined : Lined (endLineOf (last .done) (finishOf last)) size blank page
+  pub written : output ≡ text ++ take size page
+
+-- ---- that there is one
+
+-- every part can be read at once
+abbrev pub Read : List (List ℕ) → Type 0
+Read [] = Unit {0}
+Read (part ∷ parts) = (length part ≤ readMost) × Read parts
+
+-- an output over an input: of parts that are read, and what is unread
+pub record Ends (input : List ℕ) : Type 0 where
+  pub used : List (List ℕ)
+  pub rest : List ℕ
+  pub output : List ℕ
+  pub same : joined used ++ rest ≡ input
+  pub written : Output used rest output
