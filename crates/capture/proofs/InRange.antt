@@ -1,11 +1,10 @@
 -- The ranges, opened, and that every byte keeps them: `turn-ranges`.
 -- Assumes nothing.
-use Prim.Native.Nat.{ℕ, zero, suc, _+_, _-_, _*_, _^_, min, _≤_, _<_, zero-le}
+use Prim.Native.Nat.{ℕ, _+_, _-_, _*_, _^_, _≤_, _<_, zero-le}
 use mathlib.Core.Path.{_≡_, refl, sym, ap, _∙_}
 use mathlib.Core.Bool.{true, false, _||_, _&&_, or-true, or-false}
 use mathlib.Core.List.{[], _∷_}
 use native.Mathlib.Omega.{arith}
-use native.Mathlib.Decide.{decLt}
 use lib.Dec.{ltb, leb, eqb}
 use borrow.Author.Tests.{ltb-true, ltb-false, leb-true, eqb-true, lt-ltb, le-ltb, le-leb, eq-eqb, ne-eqb}
 use lib.ListN.{getD}
@@ -21,6 +20,7 @@ use Rattle.capture.specs.declared.Reader.{Reader}
 use Rattle.capture.specs.Sensor.{Sensor, countPlace, headerLength, sensorRanges, sensorPowered, sensorEffect}
 use Rattle.capture.specs.Reader.{withCount, withDevice, holdOf, betweenOf, headerLengthOf, inHeader, headerDone, countTaken, limitOf}
 use Rattle.capture.specs.Reader.{placeTests, placeOf, rangesOf, Turn, openedOf, variantTakenOf, countedOf, carryOf, judgedOf, headOf, recordOf, turnOf}
+use Rattle.capture.proofs.Limits.{limit-small, limit-all, limit-next}
 use Rattle.capture.proofs.Sensors.{powered-devices, effect-devices, early-ranges, powered-ranges, later-ranges, effect-ranges}
 
 -- ---- the tests of a state
@@ -97,29 +97,6 @@ module _ (s : Reader) (h : rangesOf s ≡ true) where
       omega (arith, ltb-false (s .head) (headerLengthOf s) l, leb-true (s .head) (headerLengthOf s) (ranges s h .place .head))
 
 -- ---- the record count so far
-
--- a number of count bytes, fewer than four
-by-taken : (P : ℕ → Type 0) → P 0 → P 1 → P 2 → P 3 → (k : ℕ) → k < 4 → P k
-by-taken P a b c d zero l = a
-by-taken P a b c d (suc zero) l = b
-by-taken P a b c d (suc (suc zero)) l = c
-by-taken P a b c d (suc (suc (suc zero))) l = d
-by-taken P a b c d (suc (suc (suc (suc k)))) l = absurd (omega arith)
-
-limit-small : (k : ℕ) → k < 4 → limitOf k ≤ 0x1000000
-limit-small = by-taken (λ k. limitOf k ≤ 0x1000000) (omega arith) (omega arith) (omega arith) (omega arith)
-
-limit-all : (k : ℕ) → limitOf k ≤ 0x100000000
-limit-all k = split (decLt k 4)
-  where
-    split : Dec (k < 4) → limitOf k ≤ 0x100000000
-    split (yes l) = omega (arith, limit-small k l)
-    split (no l) = let most : min k 4 ≡ 4 = omega arith in rw most (omega arith)
-
-limit-next : (k : ℕ) → k < 4 → (n b : ℕ) → n < limitOf k → b < 256 → n * 256 + b < limitOf (k + 1)
-limit-next =
-    by-taken (λ k. (n b : ℕ) → n < limitOf k → b < 256 → n * 256 + b < limitOf (k + 1))
-    (λ n b l m. omega arith) (λ n b l m. omega arith) (λ n b l m. omega arith) (λ n b l m. omega arith)
 
 pub count-small : (s : Reader) → rangesOf s ≡ true → s .head < headerLengthOf s → s .count < 0x1000000
 count-small s h l = omega (arith, below-limit s h, limit-small (countTaken s) (omega arith))

@@ -1,6 +1,7 @@
 pub mod Sensors
 pub mod Turns
 pub mod Outcomes
+pub mod Limits
 pub mod InRange
 pub mod Ways
 pub mod Three

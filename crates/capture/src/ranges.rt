@@ -35,16 +35,20 @@ fn place(s: Reader) -> bool
     ensures { λ r. ⌜ r ≡ placeOf s ⌝ }
 {
     let q = s.bytes;
+    let first = q[0];
+    let second = q[1];
+    let third = q[2];
+    let count = s.count as u64;
     let complete = header::complete(s);
     all(
         &[
             s.head <= header::length(s),
             s.carried <= 3,
             (s.carried == 0) | (complete & (s.done < s.count)),
-            (0 < s.carried) | (q[0] == 0),
-            (1 < s.carried) | (q[1] == 0),
-            (2 < s.carried) | (q[2] == 0),
-            (s.count as u64) < limit(header::count_taken(s)),
+            (0 < s.carried) | (first == 0),
+            (1 < s.carried) | (second == 0),
+            (2 < s.carried) | (third == 0),
+            count < limit(header::count_taken(s)),
             s.done <= s.count,
             complete | (s.done == 0),
         ],

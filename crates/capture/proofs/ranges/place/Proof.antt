@@ -4,23 +4,23 @@ use Rattle.capture.specs.Reader.{placeOf}
 use Rattle.capture.proofs.ranges.place.Statement.{statement}
 use Rattle.capture.proofs.ranges.place.Tie as tie
 
+array-read-first : tie.Need-array-read-first
+array-read-first c = search needs
+
+array-read-second : tie.Need-array-read-second
+array-read-second c = search needs
+
+array-read-third : tie.Need-array-read-third
+array-read-third c = search needs
+
+cast-count : tie.Need-cast-count
+cast-count c = search needs
+
 complete-requires : tie.Need-complete-requires
 complete-requires c κs = search needs
 
 length-requires : tie.Need-length-requires
 length-requires c κs = search needs
-
-array-read-t15 : tie.Need-array-read-t15
-array-read-t15 c = search needs
-
-array-read-t21 : tie.Need-array-read-t21
-array-read-t21 c = search needs
-
-array-read-t27 : tie.Need-array-read-t27
-array-read-t27 c = search needs
-
-cast-t30 : tie.Need-cast-t30
-cast-t30 c = search needs
 
 count-taken-requires : tie.Need-count-taken-requires
 count-taken-requires c κs = search needs
@@ -38,19 +38,19 @@ returns : tie.Need-returns
 unfolding placeOf
 returns c =
     let l = c .before .before .before .before in
-    let f = l .before .before .before .before .before .before .before .before .before .before in
+    let f = l .before .before .before .before .before .before .before .before .before in
     simp (c .all .ensures, l .limit .ensures, l .before .count-taken .ensures, f .length .ensures, f .before .complete .ensures)
 
 pub place-spec : {M : Type 1} → statement M
 place-spec =
     tie.close
     (tie.spec
+    array-read-first
+    array-read-second
+    array-read-third
+    cast-count
     complete-requires
     length-requires
-    array-read-t15
-    array-read-t21
-    array-read-t27
-    cast-t30
     count-taken-requires
     limit-requires
     slice-aggregate-all

@@ -43,7 +43,9 @@ more : (c : tie.Else1 Inv-loop μ-loop)
     let l = p .before .before .before .before .before .before .before .before .loop in
     let a = p .before .before .before .before .before .before .before .before .before .before .before .before .before .args in
     Next (a .s .count) (l .done) (length (a .input .now)) (l .at) (length (after p)) (l .written)
-more c = goes-on (c .before .before .before .before .before .before .before .before .before .before .before .before .before .loop .inv .input-fits) (c .if1 .left)
+more c =
+    let p = c .before .before .before .before .before in
+    goes-on (p .before .before .before .before .before .before .before .before .loop .inv .input-fits) (c .if1 .left)
 
 array-read-kind : tie.Need-array-read-kind Inv-loop μ-loop
 array-read-kind c = search needs
