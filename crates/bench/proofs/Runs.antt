@@ -9,11 +9,11 @@ use borrow.Author.Tests.{leb-true, leb-false}
 use Rattle.capture.specs.declared.Fed.{Fed}
 use Rattle.capture.specs.Reader.{Out, freshOf, feedOf, callOf, endOf, Meets}
 use Rattle.capture.specs.Whole.{wholeOf}
-use Rattle.capture.specs.Schedule.{Bytes}
-use Rattle.capture.proofs.Rooms.{feed-fits, feed-short}
-use Rattle.capture.proofs.Cuts.{fresh-ranges}
-use Rattle.capture.proofs.Sections.{outcome, whole-run, whole-finishing}
-use Rattle.capture.proofs.Counts.{written-small}
+use Rattle.capture_laws.specs.Schedule.{Bytes}
+use Rattle.capture_laws.proofs.Rooms.{feed-fits, feed-short}
+use Rattle.capture_laws.proofs.Cuts.{fresh-ranges}
+use Rattle.capture_laws.proofs.Sections.{outcome, whole-run, whole-finishing}
+use Rattle.capture_laws.proofs.Counts.{written-small}
 use Rattle.laws.proofs.Choices.{by-test}
 use Rattle.bench.specs.Bench.{lastOf, benchOf, Ran, RanWhole}
 

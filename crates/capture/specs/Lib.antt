@@ -3,9 +3,3 @@ pub mod Reader
 pub mod Loops
 pub mod Whole
 pub mod Opened
-pub mod Schedule
-pub mod Codes
-pub mod Places
-pub mod Events
-pub mod Written
-pub mod Examples

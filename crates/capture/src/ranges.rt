@@ -1,22 +1,9 @@
 // The ranges of the reader's state.
 ghost use mathlib.Core.Path.{_≡_};
-ghost use Rattle.device.specs.Ranges.{allTrue};
 ghost use Rattle.capture.specs.Reader.{limitOf, placeOf, rangesOf};
 use super::Reader;
 use super::header;
 use super::sensor;
-
-fn all(tests: &[bool]) -> bool
-    ensures { λ r. ⌜ r ≡ allTrue (now (tests .entry)) ⌝ }
-{
-    let mut so = true;
-    let mut i = 0;
-    while i < tests.len() {
-        so = so & tests[i];
-        i = i + 1;
-    }
-    so
-}
 
 // 256 to the power of the count bytes taken.
 fn limit(taken: u8) -> u64
@@ -40,7 +27,7 @@ fn place(s: Reader) -> bool
     let third = q[2];
     let count = s.count as u64;
     let complete = header::complete(s);
-    all(
+    device::ranges::all(
         &[
             s.head <= header::length(s),
             s.carried <= 3,
@@ -59,5 +46,5 @@ fn place(s: Reader) -> bool
 pub fn in_range(s: Reader) -> bool
     ensures { λ r. ⌜ r ≡ rangesOf s ⌝ }
 {
-    all(&[place(s), s.held <= 5, sensor::ranges(s.head, s.device)])
+    device::ranges::all(&[place(s), s.held <= 5, sensor::ranges(s.head, s.device)])
 }

@@ -20,14 +20,13 @@ pub fn variant(v: u8) -> bool
 pub fn all(tests: &[bool]) -> bool
     ensures { λ r. ⌜ r ≡ allTrue (now (tests .entry)) ⌝ }
 {
+    let mut so = true;
     let mut i = 0;
     while i < tests.len() {
-        if !tests[i] {
-            return false;
-        }
-        i += 1;
+        so = so & tests[i];
+        i = i + 1;
     }
-    true
+    so
 }
 
 // The byte has no bit but those kept.

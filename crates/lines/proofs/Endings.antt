@@ -11,7 +11,7 @@ use Rattle.laws.proofs.Choices.{by-test}
 use Rattle.capture.specs.declared.Reader.{Reader}
 use Rattle.capture.specs.declared.Fed.{Fed}
 use Rattle.capture.specs.Reader.{freshOf, callOf, finishOf, filledOf, reportOf}
-use Rattle.capture.specs.Schedule.{joined}
+use Rattle.capture_laws.specs.Schedule.{joined}
 use Rattle.lines.specs.Lines.{endLineOf, nextOf, fittingOf, fittingLinesOf}
 use Rattle.lines.specs.Turns.{readMost, answerRoom, textRoom, endRoom, Turn, Turns, Read, Ends}
 use Rattle.lines.specs.Turns.Turns.{at-end, refused, goes-on}

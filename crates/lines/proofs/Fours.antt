@@ -15,11 +15,11 @@ use Rattle.record.specs.declared.Record.the-variants.{Valid, Refused}
 use Rattle.record.specs.Record.{decodeOf}
 use Rattle.capture.specs.declared.Reader.{Reader}
 use Rattle.capture.specs.Reader.{Turn, headOf, judgedOf, recordOf, turnOf, pairOf, rangesOf}
-use Rattle.capture.specs.Schedule.{Bytes}
+use Rattle.capture_laws.specs.Schedule.{Bytes}
 use Rattle.capture.proofs.InRange.{ranges, below-limit, limit-all}
-use Rattle.capture.proofs.Rooms.{feed-fits}
-use Rattle.capture.proofs.Counts.{feed-even}
-use Rattle.capture.proofs.Run.{runOf, run-nil, run-on, run-stop, run-ranges}
+use Rattle.capture_laws.proofs.Rooms.{feed-fits}
+use Rattle.capture_laws.proofs.Counts.{feed-even}
+use Rattle.capture_laws.proofs.Run.{runOf, run-nil, run-on, run-stop, run-ranges}
 
 -- ---- one byte
 

@@ -13,12 +13,12 @@ use Rattle.capture.specs.declared.Reader.{Reader}
 use Rattle.capture.specs.declared.Fed.{Fed}
 use Rattle.capture.specs.Reader.{Out, freshOf, callOf, finishOf, rangesOf, Meets}
 use Rattle.capture.specs.Whole.{wholeOf}
-use Rattle.capture.specs.Schedule.{joined, Bytes}
-use Rattle.capture.proofs.Cuts.{fresh-ranges, bytes-left, bytes-right}
+use Rattle.capture_laws.specs.Schedule.{joined, Bytes}
+use Rattle.capture_laws.proofs.Cuts.{fresh-ranges, bytes-left, bytes-right}
 use Rattle.capture.proofs.InRange.{ranges}
-use Rattle.capture.proofs.Rooms.{feed-fits}
-use Rattle.capture.proofs.Run.{runOf, run-append, run-held, run-ranges}
-use Rattle.capture.proofs.Sections.{whole-run, whole-finishing}
+use Rattle.capture_laws.proofs.Rooms.{feed-fits}
+use Rattle.capture_laws.proofs.Run.{runOf, run-append, run-held, run-ranges}
+use Rattle.capture_laws.proofs.Sections.{whole-run, whole-finishing}
 use Rattle.lines.specs.Lines.{linesOf, endLineOf, captureListingOf}
 use Rattle.lines.specs.Turns.{Turn, Turns, Output}
 use Rattle.lines.specs.Turns.Turns.{at-end, refused, goes-on}

@@ -1,7 +1,7 @@
 -- Assumes nothing.
 use borrow.Author.Needs.{needs}
 use native.Mathlib.Omega.{arith}
-use Rattle.capture.proofs.Counts.{bytes-of}
+use Rattle.capture_laws.proofs.Counts.{bytes-of}
 use Rattle.bench.proofs.Runs.{ran, small}
 use Rattle.bench.proofs.lm89_run.Statement.{statement}
 use Rattle.bench.proofs.lm89_run.Tie as tie

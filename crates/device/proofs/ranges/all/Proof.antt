@@ -1,28 +1,35 @@
 -- Assumes nothing.
 use borrow.Author.Needs.{needs}
-use mathlib.Core.Path.{_≡_, refl}
-use Prim.Native.Nat.{_-_, _≤_}
+use Prim.Native.Nat.{ℕ, _+_, _-_, _≤_, _<_}
 use native.Mathlib.Omega.{arith}
-use lib.ListN.{length, drop}
+use native.Mathlib.Numerals.{add-one}
+use mathlib.Core.Path.{_≡_, refl, sym, _∙_}
+use mathlib.Core.Bool.{Bool, true, false, _&&_, and-true}
+use mathlib.Core.List.{List}
+use lib.ListN.{length, getD, drop, drop-of-length-le}
+use lib.Seq.{drop-cons}
 use Rattle.device.specs.Ranges.{allTrue}
-use Rattle.device.proofs.Tests.{stops, goes-on, ends}
+use Rattle.device.proofs.Tests.{all-cons}
 use Rattle.device.proofs.ranges.all.Statement.{statement}
 use Rattle.device.proofs.ranges.all.Tie as tie
 
 abbrev Inv-loop : tie.InvT-loop
-Inv-loop tests i₀ i = (i ≤ length tests) × (allTrue (drop i tests) ≡ allTrue tests)
+Inv-loop tests so₀ i₀ so i = (i ≤ length tests) × ((so && allTrue (drop i tests)) ≡ allTrue tests)
 
 abbrev μ-loop : tie.MeasureT-loop
-μ-loop tests i₀ i = length tests - i
+μ-loop tests so₀ i₀ so i = length tests - i
+
+-- one more test
+more : (so : Bool) (ts : List Bool) (i : ℕ) → i < length ts
+    → ((so && getD ts i false) && allTrue (drop (i + 1) ts)) ≡ (so && allTrue (drop i ts))
+more true ts i h = rw (add-one, drop-cons ts i false h, all-cons)
+more false ts i h = refl
 
 loop-holds : tie.Need-loop-holds Inv-loop μ-loop
-loop-holds c = (omega arith, refl)
+loop-holds c = (search needs, refl)
 
-shared-slice-read-if1 : tie.Need-shared-slice-read-if1 Inv-loop μ-loop
-shared-slice-read-if1 c = search needs
-
-returns : tie.Need-returns Inv-loop μ-loop
-returns c = let l = c .before .before .before .loop in stops _ (l .i) _ (c .before .before .loop-test .taken) (l .inv .1) (c .if1 .taken)
+shared-slice-read-so : tie.Need-shared-slice-read-so Inv-loop μ-loop
+shared-slice-read-so c = search needs
 
 add-i : tie.Need-add-i Inv-loop μ-loop
 add-i c = search needs
@@ -32,23 +39,17 @@ loop-less c = search needs
 
 loop-again : tie.Need-loop-again Inv-loop μ-loop
 loop-again c =
-    let l = c .before .before .before .loop in
-    let h = c .before .before .loop-test .taken in
-    (omega (arith, h), goes-on _ (l .i) _ h (l .inv .1) (c .if1 .left))
+    let tests = c .before .before .before .args .tests .now in
+    let l = c .before .before .loop in
+    let inside = c .before .loop-test .taken in
+    (omega (arith, inside), more (l .so) tests (l .i) inside ∙ l .inv .1)
 
-returns-2 : tie.Need-returns-2 Inv-loop μ-loop
-returns-2 c = let l = c .before .loop in ends _ (l .i) (c .loop-test .left) (l .inv .1)
+returns : tie.Need-returns Inv-loop μ-loop
+returns c =
+    let tests = c .before .before .args .tests .now in
+    let l = c .before .loop in
+    sym (and-true (l .so)) ∙ rw (drop-of-length-le tests {i = l .i} (c .loop-test .left)) at (l .inv .1)
 
 pub all-spec : {M : Type 1} → statement M
 all-spec =
-    tie.close
-    (tie.spec
-    Inv-loop
-    μ-loop
-    loop-holds
-    shared-slice-read-if1
-    returns
-    add-i
-    loop-less
-    loop-again
-    returns-2)
+    tie.close (tie.spec Inv-loop μ-loop loop-holds shared-slice-read-so add-i loop-less loop-again returns)

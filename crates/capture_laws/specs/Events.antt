@@ -13,9 +13,9 @@ use Rattle.device.specs.Ranges.{variantOf}
 use Rattle.device.specs.Run.{Reply, repliesOf, afterOf}
 use Rattle.record.specs.declared.Record.{Record}
 use Rattle.record.specs.declared.Record.the-variants.{Valid, Refused}
 use Rattle.capture.specs.Whole.{Quad, quads, quadOf, wholeOf}
-use Rattle.capture.specs.Codes.{Header, countHeader}
-use Rattle.capture.specs.Codes.Header.{badCount, badVariant, unfinished, complete}
+use Rattle.capture_laws.specs.Codes.{Header, countHeader}
+use Rattle.capture_laws.specs.Codes.Header.{badCount, badVariant, unfinished, complete}
 
 -- ---- the events
 

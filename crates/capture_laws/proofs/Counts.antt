@@ -10,16 +10,16 @@ use Rattle.record.specs.declared.Record.{Record}
 use Rattle.record.specs.declared.Record.the-variants.{Valid, Refused}
 use Rattle.record.specs.Record.{decodeOf}
 use Rattle.device.specs.Ranges.{variantOf}
 use Rattle.capture.specs.declared.Reader.{Reader}
 use Rattle.capture.specs.Sensor.{countPlace}
 use Rattle.capture.specs.Reader.{inHeader, Turn, headOf, judgedOf, recordOf, turnOf, pairOf, feedOf, callOf, freshOf}
-use Rattle.capture.specs.Schedule.{Bytes}
+use Rattle.capture_laws.specs.Schedule.{Bytes}
 use borrow.Author.Tests.{leb-true, eqb-true}
 use Rattle.capture.proofs.InRange.{ranges, count-fits}
-use Rattle.capture.proofs.Cuts.{fresh-ranges}
+use Rattle.capture_laws.proofs.Cuts.{fresh-ranges}
 use Rattle.laws.proofs.Choices.{cond-ind}
 use Rattle.capture.proofs.Outcomes.{feed-stop, feed-full, feed-on}
-use Rattle.capture.proofs.Run.{cases, feed-ranges}
+use Rattle.capture_laws.proofs.Run.{cases, feed-ranges}
 
 -- what a turn adds to the records done, twice, is what it answers
 abbrev Even : Reader → Turn → Type 0

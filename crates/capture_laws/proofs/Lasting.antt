@@ -7,13 +7,13 @@ use mathlib.Core.List.{List, [], _∷_}
 use native.Mathlib.Omega.{arith}
 use lib.ListN.{length}
 use borrow.Author.Tests.{leb-true}
 use Rattle.capture.specs.declared.Reader.{Reader}
 use Rattle.capture.specs.Reader.{turnOf, pairOf, rangesOf, feedOf, callOf}
-use Rattle.capture.specs.Codes.{lastingOf}
+use Rattle.capture_laws.specs.Codes.{lastingOf}
 use Rattle.capture.proofs.InRange.{ranges}
-use Rattle.capture.proofs.Ways.{way, held-most, none-before}
+use Rattle.capture_laws.proofs.Ways.{way, held-most, none-before}
 use Rattle.capture.proofs.Outcomes.{feed-stop, feed-on, feed-full}
-use Rattle.capture.proofs.Run.{cases}
+use Rattle.capture_laws.proofs.Run.{cases}
 
 abbrev keptCode : ℕ → ℕ
 keptCode code = cond (lastingOf code) code 0

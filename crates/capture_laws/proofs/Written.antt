@@ -21,13 +21,13 @@ use Rattle.record.specs.declared.Refusal.the-variants.{Kind, Operand}
 use Rattle.record.specs.Record.{encodeOf, codeOf}
 use Rattle.record.specs.Writer.{headerOf}
 use Rattle.record.proofs.RoundTrip.{reads-back, only-those}
 use Rattle.capture.specs.Sensor.{Sensor, sensorPowered, sensorEffect}
 use Rattle.capture.specs.Whole.{Whole, Quad, quadOf, onRecord, thenOf, quads, over, number, recordsOf, recordCountOf, variantsOf, wholeOf}
-use Rattle.capture.specs.Codes.{numberHeader}
-use Rattle.capture.specs.Events.{eventThen, eventsIn, eventsBehind, eventsOf, variantIn}
-use Rattle.capture.specs.Schedule.{Bytes}
-use Rattle.capture.specs.Written.{recordsBytes, captureOf, Allowed, ReadBack, WrittenBack}
-use Rattle.capture.proofs.Stepping.{stepped, refused, counted, uncounted, step-by-step}
+use Rattle.capture_laws.specs.Codes.{numberHeader}
+use Rattle.capture_laws.specs.Events.{eventThen, eventsIn, eventsBehind, eventsOf, variantIn}
+use Rattle.capture_laws.specs.Schedule.{Bytes}
+use Rattle.capture_laws.specs.Written.{recordsBytes, captureOf, Allowed, ReadBack, WrittenBack}
+use Rattle.capture_laws.proofs.Stepping.{stepped, refused, counted, uncounted, step-by-step}
 
 -- ---- one record
 

@@ -11,18 +11,18 @@ use lib.ListN.{length, drop, length-append, length-drop}
 use lib.Seq.{drop-cons}
 use lib.Dec.{eqb}
 use borrow.Author.Tests.{eqb-true, eqb-false}
 use Rattle.capture.specs.declared.Reader.{Reader}
 use Rattle.capture.specs.declared.Fed.{Fed}
 use Rattle.capture.specs.Reader.{Turn, Out, turnOf, pairOf, feedOf, callOf, rangesOf, freshOf, Meets}
-use Rattle.capture.specs.Places.{byteAt}
-use Rattle.capture.specs.Schedule.{Buffer, Part, toCalls, Roomy, PartEnds, PartsEnd, joined, Bytes, SameAsWhole}
-use Rattle.capture.specs.Schedule.Part.{last, again}
-use Rattle.capture.specs.Schedule.Parts.{one, more}
-use Rattle.capture.proofs.Cuts.{part-run, bytes-left, bytes-right, bytes-drop, fresh-ranges, cuts}
+use Rattle.capture_laws.specs.Places.{byteAt}
+use Rattle.capture_laws.specs.Schedule.{Buffer, Part, toCalls, Roomy, PartEnds, PartsEnd, joined, Bytes, SameAsWhole}
+use Rattle.capture_laws.specs.Schedule.Part.{last, again}
+use Rattle.capture_laws.specs.Schedule.Parts.{one, more}
+use Rattle.capture_laws.proofs.Cuts.{part-run, bytes-left, bytes-right, bytes-drop, fresh-ranges, cuts}
 use Rattle.laws.proofs.Choices.{cond-ind, by-test}
 use Rattle.capture.proofs.Outcomes.{feed-on}
-use Rattle.capture.proofs.Places.{feed-stands}
-use Rattle.capture.proofs.Run.{feed-ranges, run-ranges}
+use Rattle.capture_laws.proofs.Places.{feed-stands}
+use Rattle.capture_laws.proofs.Run.{feed-ranges, run-ranges}
 
 -- the unread rest of a call that gives 7 begins with a byte that completes a valid record
 pub record Waiting (s : Reader) (xs : List ℕ) : Type 0 where

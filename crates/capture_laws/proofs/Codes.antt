@@ -14,16 +14,16 @@ use borrow.Author.Tests.{leb-true, eqb-true, eqb-false, eq-eqb, ne-eqb}
 use Rattle.laws.proofs.Choices.{cond-ind, by-test, and-left, and-right}
 use Rattle.laws.proofs.Exactly.{by-lines}
 use Rattle.registers.specs.Page.{among}
 use Rattle.capture.specs.declared.Reader.{Reader}
 use Rattle.capture.specs.Reader.{Out, headerDone, rangesOf, turnOf, pairOf, feedOf, callOf, finishOf}
-use Rattle.capture.specs.Codes.{Header, headerAhead, carriedOf, Free, Gives, Finishes, callCodes, finishCodes}
-use Rattle.capture.specs.Codes.Header.{badCount, badVariant, unfinished, complete}
+use Rattle.capture_laws.specs.Codes.{Header, headerAhead, carriedOf, Free, Gives, Finishes, callCodes, finishCodes}
+use Rattle.capture_laws.specs.Codes.Header.{badCount, badVariant, unfinished, complete}
 use Rattle.capture.proofs.InRange.{ranges}
-use Rattle.capture.proofs.Ways.{way, held-most}
+use Rattle.capture_laws.proofs.Ways.{way, held-most}
 use Rattle.capture.proofs.Outcomes.{feed-stop, feed-full, feed-on}
-use Rattle.capture.proofs.Run.{cases}
-use Rattle.capture.proofs.Judging.{Lines, refused, ended, by-line, has-line}
-use Rattle.capture.proofs.Leading.{Leads, leads}
+use Rattle.capture_laws.proofs.Run.{cases}
+use Rattle.capture_laws.proofs.Judging.{Lines, refused, ended, by-line, has-line}
+use Rattle.capture_laws.proofs.Leading.{Leads, leads}
 
 -- ---- a call
 

@@ -12,16 +12,16 @@ use lib.Seq.{length-take-le}
 use borrow.Author.Tests.{ltb-true, ltb-false, leb-true, eqb-true, eqb-false, le-ltb, ne-eqb}
 use Rattle.laws.proofs.Choices.{cond-ind, by-test}
 use Rattle.device.specs.Ranges.{variantOf}
 use Rattle.capture.specs.declared.Reader.{Reader}
 use Rattle.capture.specs.Sensor.{Sensor, countPlace, headerLength, sensorPowered}
 use Rattle.capture.specs.Reader.{noBytes, withHead, withDone, withCarried, holdOf, headerLengthOf, inHeader, countTaken, feedOf}
 use Rattle.capture.specs.Whole.{heading, recording}
-use Rattle.capture.specs.Codes.{Header, headerAhead, numberHeader, variantHeader, countHeader, carriedOf, Free}
-use Rattle.capture.specs.Codes.Header.{badCount, badVariant, unfinished, complete}
+use Rattle.capture_laws.specs.Codes.{Header, headerAhead, numberHeader, variantHeader, countHeader, carriedOf, Free}
+use Rattle.capture_laws.specs.Codes.Header.{badCount, badVariant, unfinished, complete}
 use Rattle.capture.proofs.Sensors.{one-device}
 use Rattle.capture.proofs.Turns.{opened-turn, other-count-turn, variant-turn, other-variant-turn, counted-turn}
 use Rattle.capture.proofs.InRange.{ranges, idle, none, completed, below-limit}
-use Rattle.capture.proofs.Judging.{taken, refused, ended, carries}
+use Rattle.capture_laws.proofs.Judging.{taken, refused, ended, carries}
 
 -- ---- the header
 

@@ -5,9 +5,9 @@ use mathlib.Core.Path.{_≡_}
 use mathlib.Core.Bool.{true}
 use mathlib.Core.List.{List, []}
 use lib.ListN.{length, getD, take}
 use Rattle.capture.specs.declared.Reader.{Reader}
 use Rattle.capture.specs.Reader.{Out, holdOf, quietOf, turnOf, callOf}
-use Rattle.capture.specs.Codes.{lastingOf}
+use Rattle.capture_laws.specs.Codes.{lastingOf}
 
 -- nothing consumed, nothing written, the state as given
 pub record Unmoved (s : Reader) (o : Out) : Type 0 where

@@ -11,14 +11,14 @@ use lib.Dec.{eqb}
 use lib.ListN.{length, take, length-append}
 use borrow.Author.Tests.{leb-true, eqb-true, eqb-false}
 use Rattle.laws.proofs.Choices.{cond-ind, by-test, clash}
 use Rattle.capture.specs.declared.Reader.{Reader}
 use Rattle.capture.specs.Reader.{Turn, Out, holdOf, quietOf, stopOf, refuseOf, joinOf, turnOf, pairOf, rangesOf, feedOf, callOf}
-use Rattle.capture.specs.Codes.{lastingOf}
-use Rattle.capture.specs.Places.{Unmoved, byteAt, takenOf, EndsBefore, Stands}
-use Rattle.capture.proofs.Ways.{Lasts, way, refused}
+use Rattle.capture_laws.specs.Codes.{lastingOf}
+use Rattle.capture_laws.specs.Places.{Unmoved, byteAt, takenOf, EndsBefore, Stands}
+use Rattle.capture_laws.proofs.Ways.{Lasts, way, refused}
 use Rattle.capture.proofs.InRange.{ranges}
 use Rattle.capture.proofs.Outcomes.{feed-stop, feed-full, feed-on}
-use Rattle.capture.proofs.Run.{cases, held-stays}
+use Rattle.capture_laws.proofs.Run.{cases, held-stays}
 
 -- ---- the three ends of a call from a state that holds no code
 

@@ -18,15 +18,15 @@ use Rattle.record.specs.declared.Record.the-variants.{Valid, Refused}
 use Rattle.record.specs.declared.Refusal.{Refusal}
 use Rattle.record.specs.declared.Refusal.the-variants.{Kind, Operand}
 use Rattle.record.specs.Record.{decodeOf, codeOf}
 use Rattle.capture.specs.declared.Reader.{Reader}
 use Rattle.capture.specs.Sensor.{Sensor, zeroSensor, countPlace, headerLength, sensorPowered, sensorEffect}
 use Rattle.capture.specs.Reader.{freshOf, withHead, holdOf, betweenOf, headerLengthOf, quietOf, answeredOf, judgedOf, turnOf, Out, stopOf, joinOf, endOf}
 use Rattle.capture.specs.Whole.{Whole, refusesOf, thenOf, heading, recording, Quad, quads, over, quadOf, onRecord, recordsOf}
 use Rattle.capture.specs.Whole.{number, recordCountOf, variantsOf, wholeOf}
 use Rattle.capture.proofs.Sensors.{one-device, effect-devices}
 use Rattle.capture.proofs.Turns.{opened-turn, other-count-turn, variant-turn, other-variant-turn, counted-turn, carried-turn, judged-turn, past-turn}
 use Rattle.capture.proofs.Outcomes.{join-join, join-none}
-use Rattle.capture.proofs.Run.{runOf, run-on, run-stop, run-nil}
+use Rattle.capture_laws.proofs.Run.{runOf, run-on, run-stop, run-nil}
 
 -- a whole capture's result, as a call's outcome
 abbrev pub outcome : Whole → Out

@@ -14,12 +14,12 @@ use lib.ListN.{length, take, drop, length-append, length-take, take-append-drop}
 use lib.Seq.{take-suc, take-take}
 use borrow.Author.Tests.{leb-true, leb-false, eqb-true, eqb-false}
 use Rattle.laws.proofs.Choices.{by-test}
 use Rattle.capture.specs.declared.Reader.{Reader}
 use Rattle.capture.specs.Reader.{Turn, Out, turnOf, pairOf, joinOf, feedOf}
-use Rattle.capture.specs.Places.{byteAt, takenOf}
+use Rattle.capture_laws.specs.Places.{byteAt, takenOf}
 use Rattle.capture.proofs.Outcomes.{feed-stop, feed-full, feed-on}
-use Rattle.capture.proofs.Run.{runOf, run-nil, run-on, run-stop, run-held, run-append, feed-run, cases}
-use Rattle.capture.proofs.Places.{Full, ending, when-full}
+use Rattle.capture_laws.proofs.Run.{runOf, run-nil, run-on, run-stop, run-held, run-append, feed-run, cases}
+use Rattle.capture_laws.proofs.Places.{Full, ending, when-full}
 
 pub feed-fits : (s : Reader) (xs : List ℕ) (room : ℕ) → length (runOf s xs .answers) ≤ room → feedOf s xs room ≡ runOf s xs
 unfolding feedOf

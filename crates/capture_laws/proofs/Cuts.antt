@@ -7,15 +7,15 @@ use mathlib.Core.List.{List, [], _∷_, _++_, append-nil}
 use mathlib.Core.Bool.{true}
 use lib.ListN.{length, take, drop}
 use lib.Seq.{take-append-seam}
 use Rattle.capture.specs.declared.Reader.{Reader}
 use Rattle.capture.specs.declared.Fed.{Fed}
 use Rattle.capture.specs.Reader.{Out, feedOf, callOf, endOf, placeOf, rangesOf, freshOf, Meets}
-use Rattle.capture.specs.Schedule.{Buffer, seen, after, Part, Parts, joined, Bytes, SameAsWhole}
-use Rattle.capture.specs.Schedule.Part.{last, again}
-use Rattle.capture.specs.Schedule.Parts.{one, more}
-use Rattle.capture.proofs.Run.{runOf, run-append, run-ranges, feed-run, feed-resume, feed-ranges}
-use Rattle.capture.proofs.Sections.{whole-run, whole-finishing}
+use Rattle.capture_laws.specs.Schedule.{Buffer, seen, after, Part, Parts, joined, Bytes, SameAsWhole}
+use Rattle.capture_laws.specs.Schedule.Part.{last, again}
+use Rattle.capture_laws.specs.Schedule.Parts.{one, more}
+use Rattle.capture_laws.proofs.Run.{runOf, run-append, run-ranges, feed-run, feed-resume, feed-ranges}
+use Rattle.capture_laws.proofs.Sections.{whole-run, whole-finishing}
 use Rattle.capture.proofs.Sensors.{zero-ranges}
 
 -- what is seen of a call is its outcome
 pub seen-is : (o : Out) {r : Fed} {entry exit : List ℕ} → Meets o r entry exit → seen r exit ≡ o

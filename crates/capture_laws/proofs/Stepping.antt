@@ -26,18 +26,18 @@ use Rattle.record.specs.declared.Record.{Record}
 use Rattle.record.specs.declared.Record.the-variants.{Valid, Refused}
 use Rattle.record.specs.Record.{decodeOf, codeOf}
 use Rattle.record.proofs.RoundTrip.{only-those}
 use Rattle.capture.specs.declared.Reader.{Reader}
 use Rattle.capture.specs.Sensor.{sensorEffect}
-use Rattle.capture.specs.Reader.{rangesOf}
+use Rattle.capture.specs.Reader.{headerLengthOf, rangesOf}
 use Rattle.capture.specs.Whole.{Whole, Quad, quadOf, quads, over, number, onRecord, thenOf, refusesOf, recording}
 use Rattle.capture.specs.Whole.{recordsOf, recordCountOf, variantsOf, wholeOf}
-use Rattle.capture.specs.Codes.{numberHeader}
-use Rattle.capture.specs.Events.{eventThen, eventsIn, eventsBehind, eventsOf, variantIn, deviceIn, repliedBytes, AllStepped, StepByStep}
+use Rattle.capture_laws.specs.Codes.{numberHeader}
+use Rattle.capture_laws.specs.Events.{eventThen, eventsIn, eventsBehind, eventsOf, variantIn, deviceIn, repliedBytes, AllStepped, StepByStep}
 use Rattle.capture.proofs.InRange.{ranges}
 
 -- ---- one record
 
-pub as-stepped : (s : Reader) (kind a b c : ℕ) (e : Event) → rangesOf s ≡ true → s .head ≡ 6 → decodeOf kind a b c ≡ Valid e
+pub as-stepped : (s : Reader) (kind a b c : ℕ) (e : Event) → rangesOf s ≡ true → s .head ≡ headerLengthOf s → decodeOf kind a b c ≡ Valid e
     → stepOf (s .device) e ≡ steppedOf (effectOf (s .device) e)
 as-stepped s kind a b c e r h q =
     let tested = ltb (s .head) 2 || variantOf (s .device .variant) in

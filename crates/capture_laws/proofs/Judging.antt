@@ -18,13 +18,13 @@ use Rattle.record.specs.declared.Record.the-variants.{Valid, Refused}
 use Rattle.record.specs.declared.Refusal.the-variants.{Kind, Operand}
 use Rattle.record.specs.Record.{decodeOf, codeOf}
 use Rattle.record.proofs.Known.{kind-refused}
 use Rattle.capture.specs.declared.Reader.{Reader}
 use Rattle.capture.specs.Sensor.{Sensor, sensorEffect}
 use Rattle.capture.specs.Reader.{Out, holdOf, quietOf, answeredOf, turnOf, feedOf}
 use Rattle.capture.specs.Whole.{Quad, quads, over, quadOf, recording}
-use Rattle.capture.specs.Codes.{knownKind, IsValid, AllValid, Judged, Past, Done}
+use Rattle.capture_laws.specs.Codes.{knownKind, IsValid, AllValid, Judged, Past, Done}
 use Rattle.capture.proofs.Outcomes.{feed-stop, feed-full, feed-on}
-use Rattle.capture.proofs.Sections.{first, second, third, fourth, past, stepped, lasting}
+use Rattle.capture_laws.proofs.Sections.{first, second, third, fourth, past, stepped, lasting}
 
 -- ---- a call's code, byte by byte
 

@@ -8,12 +8,12 @@ use native.Mathlib.Numerals.{one-add}
 use lib.ListN.{length, drop}
 use lib.Dec.{leb, eqb}
 use borrow.Author.Tests.{eqb-true, eqb-false, ne-eqb, leb-true, leb-false}
 use Rattle.capture.specs.declared.Reader.{Reader}
 use Rattle.capture.specs.Reader.{Out, stopOf, joinOf, turnOf, pairOf, feedOf, rangesOf}
-use Rattle.capture.specs.Schedule.{after, Bytes}
+use Rattle.capture_laws.specs.Schedule.{after, Bytes}
 use Rattle.laws.proofs.Choices.{by-test}
 use Rattle.capture.proofs.Outcomes.{join-join, join-none, feed-stop, feed-full, feed-on}
 use Rattle.capture.proofs.InRange.{turn-ranges}
 
 unfoldable pub runOf : Reader → List ℕ → Out
 runOf s [] = stopOf s

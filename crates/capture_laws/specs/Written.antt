@@ -11,8 +11,8 @@ use Rattle.device.specs.Run.{repliesOf, afterOf}
 use Rattle.device.specs.Ranges.{variantOf, operandsOf}
 use Rattle.record.specs.Record.{encodeOf}
 use Rattle.record.specs.Writer.{headerOf}
 use Rattle.capture.specs.Whole.{wholeOf}
-use Rattle.capture.specs.Events.{eventsOf, variantIn, repliedBytes}
+use Rattle.capture_laws.specs.Events.{eventsOf, variantIn, repliedBytes}
 
 -- one record after the other
 abbrev pub recordsBytes : List Event → List ℕ

@@ -1,0 +1,14 @@
+pub mod Ways
+pub mod Run
+pub mod Places
+pub mod Sections
+pub mod Cuts
+pub mod Ends
+pub mod Rooms
+pub mod Counts
+pub mod Stepping
+pub mod Written
+pub mod Judging
+pub mod Leading
+pub mod Codes
+pub mod Lasting
