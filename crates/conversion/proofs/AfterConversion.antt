@@ -2,7 +2,7 @@
 -- depend on. `channels-alike`: both channels alike up to the fault queue and OPEN.
 -- Assumes nothing.
 use mathlib.Core.Path.{_≡_, refl, ap, sym, _∙_}
-use mathlib.Core.Bool.{Bool, true, false, not, _||_, _&&_, cond}
+use mathlib.Core.Bool.{Bool, false, not, _||_, _&&_, cond}
 use mathlib.Core.List.{List}
 use Prim.Native.Nat.{ℕ, _+_, min}
 use lib.IntN.{ℤ}
@@ -13,29 +13,12 @@ use Rattle.registers.specs.Bits.{has}
 use Rattle.registers.specs.Page.{settingOf}
 use Rattle.conversion.specs.declared.Sensed.{Sensed}
 use Rattle.conversion.specs.declared.Out.{Out}
-use Rattle.conversion.specs.Conversion.{localLimitsOf, remoteLimitsOf, outOf, anyOf, countOf, queuedOf, shownOf, bitOf, liveOf, latchOf, sensedOf}
+use Rattle.conversion.specs.Conversion.{localLimitsOf, remoteLimitsOf, outOf, anyOf, countOf, queuedOf, shownOf, liveOf, latchOf, sensedOf}
 use Rattle.conversion.specs.Conversion.{localOutOf, remoteOutOf, remoteShownOf, faultsOf, localOf}
 use Rattle.conversion.specs.AfterConversion.{SameLimits, SameChannels, Alike, aboveRemoteHigh, belowRemoteLow, aboveRemoteCrit, outsideAny, heldBack, latched, AfterConversion}
-use Rattle.conversion.proofs.Bits.{has-or}
+use Rattle.conversion.proofs.Bits.{has-or, bit-of, and-false, and-true, or-false}
 
 -- ---- the live byte, bit by bit
-
-bit-of : (on : Bool) (bit mask : ℕ) → has (bitOf on bit) mask ≡ (on && has bit mask)
-bit-of true bit mask = refl
-bit-of false bit mask = refl
-
--- a bit that another mask asks for is not seen
-and-false : (on : Bool) → (on && false) ≡ false
-and-false true = refl
-and-false false = refl
-
-and-true : (on : Bool) → (on && true) ≡ on
-and-true true = refl
-and-true false = refl
-
-or-false : (on : Bool) → (on || false) ≡ on
-or-false true = refl
-or-false false = refl
 
 not-held : (on held : Bool) → held ≡ false → (on && not held) ≡ on
 not-held on held e = rw e (and-true on)

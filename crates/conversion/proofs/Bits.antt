@@ -1,7 +1,7 @@
--- `has-or`: a bit of a mask is set in two bytes joined exactly if it is set in one of them.
+-- `has-or`: a bit of a mask is set in two bytes joined exactly if it is set in one of them. `bit-of`: and in a byte of one bit or none.
 -- Assumes nothing.
-use mathlib.Core.Path.{_≡_, ap, sym, _∙_}
-use mathlib.Core.Bool.{true, false, not, _||_}
+use mathlib.Core.Path.{_≡_, refl, ap, sym, _∙_}
+use mathlib.Core.Bool.{Bool, true, false, not, _||_, _&&_}
 use Prim.Native.Nat.{ℕ, _+_, _*_, _/_, _%_, min, max}
 use native.Mathlib.Omega.{arith}
 use lib.Dec.{eqb}
@@ -10,6 +10,7 @@ use lib.Bits.{bitAnd, bitOr, and-step, or-step, or-add-and, and-le-r, or-zero-l}
 use borrow.Author.Tests.{eqb-true, eqb-false, ne-eqb}
 use Rattle.laws.proofs.Choices.{by-test}
 use Rattle.registers.specs.Bits.{has}
+use Rattle.conversion.specs.Conversion.{bitOf}
 
 and-or-step : (n : ℕ) → ((x m : ℕ) → bitAnd (bitOr (n / 2) x) m ≡ bitOr (bitAnd (n / 2) m) (bitAnd x m))
     → (x m : ℕ) → bitAnd (bitOr n x) m ≡ bitOr (bitAnd n m) (bitAnd x m)
@@ -52,3 +53,22 @@ set-or p q = by-test (eqb p 0) none some
 
 pub has-or : (x y mask : ℕ) → has (bitOr x y) mask ≡ (has x mask || has y mask)
 has-or x y mask = ap (λ (n : ℕ). not (eqb n 0)) (and-or x y mask) ∙ set-or (bitAnd x mask) (bitAnd y mask)
+
+-- ---- one bit or none
+
+pub bit-of : (on : Bool) (bit mask : ℕ) → has (bitOf on bit) mask ≡ (on && has bit mask)
+bit-of true bit mask = refl
+bit-of false bit mask = refl
+
+-- a bit that another mask asks for is not seen
+pub and-false : (on : Bool) → (on && false) ≡ false
+and-false true = refl
+and-false false = refl
+
+pub and-true : (on : Bool) → (on && true) ≡ on
+and-true true = refl
+and-true false = refl
+
+pub or-false : (on : Bool) → (on || false) ≡ on
+or-false true = refl
+or-false false = refl

@@ -1,5 +1,6 @@
 -- `alert-of-status`, `alert-of-live` and `masked`: what pulls ALERT, bit by bit. `t-crit-a`: what pulls T_CRIT_A. `responds` and
 -- `unanswered-same`: an alert response. `received`: a receive at its own address is a read of the pointer's register.
+-- `status-read`: a read of 02. `first-byte`: the first answer byte.
 -- Assumes nothing.
 use mathlib.Core.Path.{_≡_, refl, ap, sym, _∙_}
 use mathlib.Core.Bool.{Bool, true, false, not, _||_, _&&_}
@@ -8,20 +9,23 @@ use Prim.Native.Nat.{ℕ, suc, _%_, _^_, _<_}
 use native.Mathlib.Nat.{mod-eq-of-lt}
 use native.Mathlib.Omega.{arith}
 use lib.Dec.{eqb, lit<}
-use lib.Bits.{bitAnd, and-mod, and-le-r}
+use lib.Bits.{bitAnd, and-mod, and-le-r, or-lt}
 use lib.ListN.{getD, set, length}
 use lib.Seq.{getD-set-same, getD-set-other}
-use borrow.Author.Tests.{ne-eqb}
+use borrow.Author.Tests.{eq-eqb, ne-eqb}
 use Rattle.laws.proofs.Choices.{by-test, clash}
 use Rattle.laws.proofs.Tables.{agree}
-use Rattle.registers.specs.Bits.{has}
-use Rattle.registers.specs.Page.{find, onPosition, readPositionOf, settingOf, changedOf, addressOf}
+use Rattle.registers.specs.Bits.{has, alerting}
+use Rattle.registers.specs.Page.{find, onPosition, readableOf, settableOf, readPositionOf, settingOf, changedOf, addressOf}
+use Rattle.conversion.specs.Conversion.{bitOf}
+use Rattle.conversion.proofs.Bits.{has-or, bit-of, and-false, and-true, or-false}
 use Rattle.device.specs.declared.Device.{Device}
+use Rattle.device.specs.declared.Outcome.{Outcome}
 use Rattle.device.specs.declared.Event.the-variants.{Read, Receive}
-use Rattle.device.specs.Pins.{comparatorOf, watchedOf, alertOf, tcritOf}
-use Rattle.device.specs.Bus.{maskedOf, respondsOf, respondOf}
-use Rattle.device.specs.Step.{effectOf}
-use Rattle.device.specs.Alerts.{anyOfSix, Responds}
+use Rattle.device.specs.Pins.{comparatorOf, watchedOf, alertOf, tcritOf, pinsOf, firstOf}
+use Rattle.device.specs.Bus.{maskedOf, statusReadOf, readOnlyValueOf, valueOf, getOf, respondsOf, respondOf}
+use Rattle.device.specs.Step.{effectOf, answerOf}
+use Rattle.device.specs.Alerts.{anyOfSix, Responds, StatusRead, FirstByte}
 
 -- ---- ALERT
 
@@ -150,3 +154,80 @@ module _ (d : Device) where
   pub unanswered-same : effectOf d (Receive 0x0C) .acknowledged ≡ false → effectOf d (Receive 0x0C) .device ≡ d
   unfolding effectOf respondOf
   unanswered-same h = by-test (respondsOf d) (λ t. clash (sym (rw t at h))) (λ t. rw t)
+
+-- ---- a read of status
+
+module _ (d : Device) where
+  masks : (not (comparatorOf d) && has (d .status) alerting) ≡ (not (has (settingOf (d .settings) 0xBF) 0x01) && anyOfSix (d .status))
+  unfolding comparatorOf
+  masks = ap (λ (t : Bool). not (has (settingOf (d .settings) 0xBF) 0x01) && t) (six (d .status))
+
+  gets-status : length (d .settings) ≡ 14 → (t : Bool) → (not (has (settingOf (d .settings) 0xBF) 0x01) && anyOfSix (d .status)) ≡ t
+      → StatusRead d (getOf d 0x02)
+  unfolding getOf statusReadOf maskedOf readableOf valueOf settableOf readOnlyValueOf comparatorOf
+  gets-status long true e =
+      let sets = masks ∙ e in
+      record {
+        acknowledged = refl;
+        byte = refl;
+        taken = refl;
+        cleared = rw sets;
+        variant = rw sets;
+        pointer = rw sets;
+        pending = rw sets;
+        sensed = rw sets;
+        mask = rw (sets, e) (mask-bit (d .settings) _ long);
+        others = λ r h. rw sets (others-same (d .settings) _ r h);
+      }
+  gets-status long false e =
+      let leaves = masks ∙ e in
+      record {
+        acknowledged = refl;
+        byte = refl;
+        taken = refl;
+        cleared = rw leaves;
+        variant = rw leaves;
+        pointer = rw leaves;
+        pending = rw leaves;
+        sensed = rw leaves;
+        mask = rw (leaves, e);
+        others = λ r h. rw leaves;
+      }
+
+  -- P6; a receive with the pointer at 02 is the same by `received`
+  pub status-read : length (d .settings) ≡ 14 → StatusRead d (effectOf d (Read (addressOf (d .variant)) 0x02))
+  unfolding effectOf
+  status-read long =
+      rw (eq-eqb (addressOf (d .variant)) _ refl) (gets-status long (not (has (settingOf (d .settings) 0xBF) 0x01) && anyOfSix (d .status)) refl)
+
+-- ---- the first answer byte
+
+module _ (alert tcrit acknowledged taken : Bool) where
+  four : (mask : ℕ) → has (firstOf (record { alert = alert; tcrit = tcrit }) acknowledged taken) mask
+      ≡ ((((alert && has 0x01 mask) || (tcrit && has 0x02 mask)) || (acknowledged && has 0x04 mask)) || (taken && has 0x08 mask))
+  unfolding firstOf
+  four mask = simp (has-or, bit-of)
+
+  within-four : firstOf (record { alert = alert; tcrit = tcrit }) acknowledged taken < 2 ^ 4
+  unfolding firstOf
+  within-four =
+      or-lt 4 _ _ (or-lt 4 _ _ (or-lt 4 _ _ (bit-below alert 0x01 (lit< tt)) (bit-below tcrit 0x02 (lit< tt))) (bit-below acknowledged 0x04 (lit< tt)))
+      (bit-below taken 0x08 (lit< tt))
+    where
+      bit-below : (on : Bool) (bit : ℕ) → bit < 2 ^ 4 → bitOf on bit < 2 ^ 4
+      bit-below true bit h = h
+      bit-below false bit h = lit< tt
+
+pub first-byte : (o : Outcome) → FirstByte o (answerOf o)
+unfolding answerOf pinsOf
+first-byte o =
+    let a = alertOf (o .device) in
+    let c = tcritOf (o .device) in
+    let bits = four a c (o .acknowledged) (o .taken) in
+    record {
+      D0 = bits 0x01 ∙ simp (and-false, and-true, or-false);
+      D1 = bits 0x02 ∙ simp (and-false, and-true, or-false);
+      D2 = bits 0x04 ∙ simp (and-false, and-true, or-false);
+      D3 = bits 0x08 ∙ simp (and-false, and-true);
+      rest = within-four a c (o .acknowledged) (o .taken);
+    }
