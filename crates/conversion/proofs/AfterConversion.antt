@@ -15,7 +15,8 @@ use Rattle.conversion.specs.declared.Sensed.{Sensed}
 use Rattle.conversion.specs.declared.Out.{Out}
 use Rattle.conversion.specs.Conversion.{localLimitsOf, remoteLimitsOf, outOf, anyOf, countOf, queuedOf, shownOf, liveOf, latchOf, sensedOf}
 use Rattle.conversion.specs.Conversion.{localOutOf, remoteOutOf, remoteShownOf, faultsOf, localOf}
-use Rattle.conversion.specs.AfterConversion.{SameLimits, SameChannels, Alike, aboveRemoteHigh, belowRemoteLow, aboveRemoteCrit, outsideAny, heldBack, latched, AfterConversion}
+use Rattle.conversion.specs.AfterConversion.{SameLimits, SameChannels, Alike, aboveRemoteHigh}
+use Rattle.conversion.specs.AfterConversion.{belowRemoteLow, aboveRemoteCrit, outsideAny, heldBack, latched, AfterConversion}
 use Rattle.conversion.proofs.Bits.{has-or, bit-of, and-false, and-true, or-false}
 
 -- ---- the live byte, bit by bit

@@ -1,21 +1,11 @@
 -- Worked rows for the rulings, on each part from power-on: each event beside what a step replies to it. Every status bit stands alone in
 -- one, every settable register is written and read, every part's page is read, and each ruling shows both its sides.
 -- Assumes nothing.
-use mathlib.Core.Path.{_≡_, refl}
-use Prim.Native.Nat.{ℕ}
-use mathlib.Core.List.{List, [], _∷_, map}
+use mathlib.Core.Path.{refl}
+use mathlib.Core.List.{List, [], _∷_}
 use Rattle.device.specs.declared.Event.the-variants.{Write, Read, Send, Receive, Convert, Open, PowerOn}
-use Rattle.device.specs.Bus.{poweredOf}
 use Rattle.device.specs.Opened.{deviceOpened}
-use Rattle.device.specs.Run.{repliesOf}
-use Rattle.device.specs.Exchange.{Exchange, does, eventsIn, repliesIn}
-
-pub record Row : Type 0 where
-  pub variant : ℕ
-  pub exchanges : List Exchange
-
-abbrev pub row : ℕ → List Exchange → Row
-row variant exchanges = record { variant = variant; exchanges = exchanges }
+use Rattle.device.specs.Exchange.{does, Row, row, Worked}
 
 abbrev pub rows : List Row
 rows =
@@ -156,6 +146,6 @@ rows =
     does (Read 0x4C 0x02) 0x04 0x40 ∷ does (Read 0x4C 0x03) 0x04 0x80 ∷ []) ∷
     []
 
-pub worked : map (λ (r : Row). repliesOf (poweredOf (r .variant)) (eventsIn (r .exchanges))) rows ≡ map (λ (r : Row). repliesIn (r .exchanges)) rows
+pub worked : Worked rows
 unfolding deviceOpened
 worked = refl
