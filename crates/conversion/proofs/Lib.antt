@@ -1,1 +1,3 @@
 pub mod Bounds
+pub mod Bits
+pub mod AfterConversion

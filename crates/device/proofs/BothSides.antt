@@ -24,10 +24,12 @@ use Rattle.device.specs.declared.Device.{Device}
 use Rattle.device.specs.declared.Outcome.{Outcome}
 use Rattle.device.specs.Profile.{IsConversion}
 use Rattle.device.specs.Run.{repliesOf, afterOf}
+use Rattle.device.specs.Exchange.{eventsIn, repliesIn}
 use Rattle.device.specs.BothSides.{heard, Line, table, Conversions, BothSides}
 use Rattle.device.proofs.Steps.{step-ind}
 
-ten-lines : map (λ (l : Line). repliesOf (afterOf (poweredOf 1) (l .scene)) (l .events)) table ≡ map (λ (l : Line). l .replies) table
+ten-lines : map (λ (l : Line). repliesOf (afterOf (poweredOf 1) (l .scene)) (eventsIn (l .exchanges))) table
+    ≡ map (λ (l : Line). repliesIn (l .exchanges)) table
 unfolding deviceOpened
 ten-lines = refl
 

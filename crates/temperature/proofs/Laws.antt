@@ -56,7 +56,7 @@ mag-less (pos a) (suc n) H K h k = sub-mag a (suc n) (H + K) (omega arith) (omeg
 mag-less (negsuc a) zero H K h k = sub-mag zero (suc a) (H + K) (omega arith) (omega arith)
 mag-less (negsuc a) (suc n) H K h k = omega arith
 
-eight : (a : ℕ) → negsuc a *ℤ pos 8 ≡ negsuc (a * 8 + 7)
+pub eight : (a : ℕ) → negsuc a *ℤ pos 8 ≡ negsuc (a * 8 + 7)
 eight a = rw (times a)
   where
     times : (a : ℕ) → suc a * 8 ≡ suc (a * 8 + 7)

@@ -1,0 +1,233 @@
+-- `alert-of-status`, `alert-of-live` and `masked`: what pulls ALERT, bit by bit. `t-crit-a`: what pulls T_CRIT_A. `responds` and
+-- `unanswered-same`: an alert response. `received`: a receive at its own address is a read of the pointer's register.
+-- `status-read`: a read of 02. `first-byte`: the first answer byte.
+-- Assumes nothing.
+use mathlib.Core.Path.{_≡_, refl, ap, sym, _∙_}
+use mathlib.Core.Bool.{Bool, true, false, not, _||_, _&&_}
+use mathlib.Core.List.{List, [], _∷_}
+use Prim.Native.Nat.{ℕ, suc, _%_, _^_, _<_}
+use native.Mathlib.Nat.{mod-eq-of-lt}
+use native.Mathlib.Omega.{arith}
+use lib.Dec.{eqb, lit<}
+use lib.Bits.{bitAnd, and-mod, and-le-r, or-lt}
+use lib.ListN.{getD, set, length}
+use lib.Seq.{getD-set-same, getD-set-other}
+use borrow.Author.Tests.{eq-eqb, ne-eqb}
+use Rattle.laws.proofs.Choices.{by-test, clash}
+use Rattle.laws.proofs.Tables.{agree}
+use Rattle.registers.specs.Bits.{has, alerting}
+use Rattle.registers.specs.Page.{find, onPosition, readableOf, settableOf, readPositionOf, settingOf, changedOf, addressOf}
+use Rattle.conversion.specs.Conversion.{bitOf}
+use Rattle.conversion.proofs.Bits.{has-or, bit-of, and-false, and-true, or-false}
+use Rattle.device.specs.declared.Device.{Device}
+use Rattle.device.specs.declared.Outcome.{Outcome}
+use Rattle.device.specs.declared.Event.the-variants.{Read, Receive}
+use Rattle.device.specs.Pins.{comparatorOf, watchedOf, alertOf, tcritOf, pinsOf, firstOf}
+use Rattle.device.specs.Bus.{maskedOf, statusReadOf, readOnlyValueOf, valueOf, getOf, respondsOf, respondOf}
+use Rattle.device.specs.Step.{effectOf, answerOf}
+use Rattle.device.specs.Alerts.{anyOfSix, Responds, StatusRead, FirstByte}
+
+-- ---- ALERT
+
+-- only the low eight bits meet a mask of eight
+low-eight : (b m : ℕ) → m < 2 ^ 8 → bitAnd b m ≡ bitAnd (b % 2 ^ 8) m
+low-eight b m h =
+    sym (mod-eq-of-lt (omega (arith, and-le-r b m, h))) ∙ and-mod b m 8 ∙ ap (bitAnd (b % 2 ^ 8)) (mod-eq-of-lt h)
+
+six-byte : (b : ℕ) → b < 256 → has b 0x7B ≡ anyOfSix b
+six-byte = agree (λ b. has b 0x7B) anyOfSix 256 refl
+
+-- the six bits are those of 7Bh
+six : (b : ℕ) → has b 0x7B ≡ anyOfSix b
+six b =
+    rw (
+      low-eight b 0x7B (lit< tt),
+      low-eight b 0x40 (lit< tt),
+      low-eight b 0x20 (lit< tt),
+      low-eight b 0x10 (lit< tt),
+      low-eight b 0x08 (lit< tt),
+      low-eight b 0x02 (lit< tt),
+      low-eight b 0x01 (lit< tt),
+    )
+    (six-byte (b % 2 ^ 8) (omega arith))
+
+module _ (d : Device) where
+  -- P7: BF D0 is 0
+  pub alert-of-status : has (settingOf (d .settings) 0xBF) 0x01 ≡ false
+      → alertOf d ≡ (not (has (settingOf (d .settings) 0x03) 0x80) && anyOfSix (d .status))
+  unfolding alertOf watchedOf comparatorOf
+  alert-of-status h = rw h (ap (λ (t : Bool). not (has (settingOf (d .settings) 0x03) 0x80) && t) (six (d .status)))
+
+  -- P7: BF D0 is 1
+  pub alert-of-live : has (settingOf (d .settings) 0xBF) 0x01 ≡ true
+      → alertOf d ≡ (not (has (settingOf (d .settings) 0x03) 0x80) && anyOfSix (d .sensed .live))
+  unfolding alertOf watchedOf comparatorOf
+  alert-of-live h = rw h (ap (λ (t : Bool). not (has (settingOf (d .settings) 0x03) 0x80) && t) (six (d .sensed .live)))
+
+  -- in either mode
+  pub masked : has (settingOf (d .settings) 0x03) 0x80 ≡ true → alertOf d ≡ false
+  unfolding alertOf
+  masked h = rw h
+
+  -- P8
+  pub t-crit-a : tcritOf d
+      ≡ ((d .sensed .llatch && not (has (settingOf (d .settings) 0x03) 0x04)) || (d .sensed .rlatch && not (has (settingOf (d .settings) 0x03) 0x10)))
+  unfolding tcritOf
+  t-crit-a = refl
+
+  -- ---- receive
+
+  not-response : eqb (addressOf (d .variant)) 0x0C ≡ false
+  unfolding addressOf
+  not-response = by-test (eqb (d .variant) 1) (λ e. rw e) (λ e. rw e)
+
+  -- P10: at its own address
+  pub received : effectOf d (Receive (addressOf (d .variant))) ≡ effectOf d (Read (addressOf (d .variant)) (d .pointer))
+  unfolding effectOf
+  received = rw not-response
+
+-- ---- alert response
+
+-- a register that stands behind the first
+behind : (s : List ℕ) (b x n : ℕ) (l : List ℕ)
+    → onPosition (find x (suc n) l) (λ i. getD (set s 0 b) i 0) 0 ≡ onPosition (find x (suc n) l) (λ i. getD s i 0) 0
+behind s b x n [] = refl
+behind s b x n (y ∷ ys) =
+    by-test (eqb x y) (λ t. rw t (getD-set-other s 0 (suc n) b 0 (λ (e : suc n ≡ 0). absurd (omega arith))))
+    (λ t. rw t (behind s b x (suc n) ys))
+
+-- a register that is not the first
+not-first : (s : List ℕ) (b first x : ℕ) (l : List ℕ) → (x ≡ first → ⊥)
+    → onPosition (find x 0 (first ∷ l)) (λ i. getD (set s 0 b) i 0) 0 ≡ onPosition (find x 0 (first ∷ l)) (λ i. getD s i 0) 0
+not-first s b first x l h = rw (ne-eqb x first h) (behind s b x 0 l)
+
+others-same : (s : List ℕ) (b r : ℕ) → (r ≡ 0x03 → ⊥) → settingOf (changedOf s 0x03 b) r ≡ settingOf s r
+unfolding settingOf readPositionOf changedOf
+others-same s b r h =
+    not-first s b 0x03 r (0x04 ∷ 0x05 ∷ 0x06 ∷ 0x07 ∷ 0x08 ∷ 0x11 ∷ 0x12 ∷ 0x13 ∷ 0x14 ∷ 0x19 ∷ 0x20 ∷ 0x21 ∷ 0xBF ∷ []) h
+
+mask-bit : (s : List ℕ) (b : ℕ) → length s ≡ 14 → settingOf (changedOf s 0x03 b) 0x03 ≡ b
+unfolding settingOf readPositionOf changedOf
+mask-bit s b h = getD-set-same s 0 b 0 (omega arith)
+
+module _ (d : Device) where
+  responded : respondsOf d ≡ (alertOf d && not (has (settingOf (d .settings) 0xBF) 0x01))
+  unfolding respondsOf comparatorOf
+  responded = refl
+
+  responds-to : length (d .settings) ≡ 14 → (t : Bool) → (alertOf d && not (has (settingOf (d .settings) 0xBF) 0x01)) ≡ t → Responds d (respondOf d)
+  unfolding respondOf maskedOf
+  responds-to long true e =
+      let answers : respondsOf d ≡ true = responded ∙ e in
+      record {
+        acknowledged = rw (answers, e);
+        byte = rw answers;
+        taken = rw answers;
+        variant = rw answers;
+        pointer = rw answers;
+        pending = rw answers;
+        status = rw answers;
+        sensed = rw answers;
+        mask = rw answers (mask-bit (d .settings) _ long);
+        others = λ r h. rw answers (others-same (d .settings) _ r h);
+      }
+  responds-to long false e =
+      let silent : respondsOf d ≡ false = responded ∙ e in
+      record {
+        acknowledged = rw (silent, e);
+        byte = rw silent;
+        taken = rw silent;
+        variant = rw silent;
+        pointer = rw silent;
+        pending = rw silent;
+        status = rw silent;
+        sensed = rw silent;
+        mask = rw silent;
+        others = λ r h. rw silent;
+      }
+
+  -- P9; a device holds fourteen settings
+  pub responds : length (d .settings) ≡ 14 → Responds d (effectOf d (Receive 0x0C))
+  unfolding effectOf
+  responds long = responds-to long (alertOf d && not (has (settingOf (d .settings) 0xBF) 0x01)) refl
+
+  pub unanswered-same : effectOf d (Receive 0x0C) .acknowledged ≡ false → effectOf d (Receive 0x0C) .device ≡ d
+  unfolding effectOf respondOf
+  unanswered-same h = by-test (respondsOf d) (λ t. clash (sym (rw t at h))) (λ t. rw t)
+
+-- ---- a read of status
+
+module _ (d : Device) where
+  masks : (not (comparatorOf d) && has (d .status) alerting) ≡ (not (has (settingOf (d .settings) 0xBF) 0x01) && anyOfSix (d .status))
+  unfolding comparatorOf
+  masks = ap (λ (t : Bool). not (has (settingOf (d .settings) 0xBF) 0x01) && t) (six (d .status))
+
+  gets-status : length (d .settings) ≡ 14 → (t : Bool) → (not (has (settingOf (d .settings) 0xBF) 0x01) && anyOfSix (d .status)) ≡ t
+      → StatusRead d (getOf d 0x02)
+  unfolding getOf statusReadOf maskedOf readableOf valueOf settableOf readOnlyValueOf comparatorOf
+  gets-status long true e =
+      let sets = masks ∙ e in
+      record {
+        acknowledged = refl;
+        byte = refl;
+        taken = refl;
+        cleared = rw sets;
+        variant = rw sets;
+        pointer = rw sets;
+        pending = rw sets;
+        sensed = rw sets;
+        mask = rw (sets, e) (mask-bit (d .settings) _ long);
+        others = λ r h. rw sets (others-same (d .settings) _ r h);
+      }
+  gets-status long false e =
+      let leaves = masks ∙ e in
+      record {
+        acknowledged = refl;
+        byte = refl;
+        taken = refl;
+        cleared = rw leaves;
+        variant = rw leaves;
+        pointer = rw leaves;
+        pending = rw leaves;
+        sensed = rw leaves;
+        mask = rw (leaves, e);
+        others = λ r h. rw leaves;
+      }
+
+  -- P6; a receive with the pointer at 02 is the same by `received`
+  pub status-read : length (d .settings) ≡ 14 → StatusRead d (effectOf d (Read (addressOf (d .variant)) 0x02))
+  unfolding effectOf
+  status-read long =
+      rw (eq-eqb (addressOf (d .variant)) _ refl) (gets-status long (not (has (settingOf (d .settings) 0xBF) 0x01) && anyOfSix (d .status)) refl)
+
+-- ---- the first answer byte
+
+module _ (alert tcrit acknowledged taken : Bool) where
+  four : (mask : ℕ) → has (firstOf (record { alert = alert; tcrit = tcrit }) acknowledged taken) mask
+      ≡ ((((alert && has 0x01 mask) || (tcrit && has 0x02 mask)) || (acknowledged && has 0x04 mask)) || (taken && has 0x08 mask))
+  unfolding firstOf
+  four mask = simp (has-or, bit-of)
+
+  within-four : firstOf (record { alert = alert; tcrit = tcrit }) acknowledged taken < 2 ^ 4
+  unfolding firstOf
+  within-four =
+      or-lt 4 _ _ (or-lt 4 _ _ (or-lt 4 _ _ (bit-below alert 0x01 (lit< tt)) (bit-below tcrit 0x02 (lit< tt))) (bit-below acknowledged 0x04 (lit< tt)))
+      (bit-below taken 0x08 (lit< tt))
+    where
+      bit-below : (on : Bool) (bit : ℕ) → bit < 2 ^ 4 → bitOf on bit < 2 ^ 4
+      bit-below true bit h = h
+      bit-below false bit h = lit< tt
+
+pub first-byte : (o : Outcome) → FirstByte o (answerOf o)
+unfolding answerOf pinsOf
+first-byte o =
+    let a = alertOf (o .device) in
+    let c = tcritOf (o .device) in
+    let bits = four a c (o .acknowledged) (o .taken) in
+    record {
+      D0 = bits 0x01 ∙ simp (and-false, and-true, or-false);
+      D1 = bits 0x02 ∙ simp (and-false, and-true, or-false);
+      D2 = bits 0x04 ∙ simp (and-false, and-true, or-false);
+      D3 = bits 0x08 ∙ simp (and-false, and-true);
+      rest = within-four a c (o .acknowledged) (o .taken);
+    }
