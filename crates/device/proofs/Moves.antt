@@ -34,20 +34,20 @@ use Rattle.device.proofs.Untouched.{still}
 
 -- ---- choices
 
-cond-same : {A : Type 0} (t : Bool) (x : A) → cond t x x ≡ x
+pub cond-same : {A : Type 0} (t : Bool) (x : A) → cond t x x ≡ x
 cond-same true x = refl
 cond-same false x = refl
 
-or-false : (t : Bool) → (t || false) ≡ t
+pub or-false : (t : Bool) → (t || false) ≡ t
 or-false true = refl
 or-false false = refl
 
 -- a number outside a list is none of the list's
-outside : (l : List ℕ) (k x : ℕ) → among k l ≡ true → among x l ≡ false → eqb x k ≡ false
+pub outside : (l : List ℕ) (k x : ℕ) → among k l ≡ true → among x l ≡ false → eqb x k ≡ false
 outside l k x inside e = ne-eqb x k (λ q. clash (sym e ∙ ap (λ (y : ℕ). among y l) q ∙ inside))
 
 -- 0C is no device's own address
-response-apart : (d : Device) (a : ℕ) → eqb a alertResponse ≡ true → ownOf d a ≡ false
+pub response-apart : (d : Device) (a : ℕ) → eqb a alertResponse ≡ true → ownOf d a ≡ false
 response-apart d a e = ap (ownOf d) (eqb-true a alertResponse e) ∙ split (eqb (d .variant) 1)
   where
     split : (t : Bool) → eqb alertResponse (cond t 0x4C 0x4D) ≡ false
@@ -58,7 +58,7 @@ response-apart d a e = ap (ownOf d) (eqb-true a alertResponse e) ∙ split (eqb 
 
 module _ {A : Type 0} (f : Device → A) (d : Device) where
   -- moved to x at the own address under a test, else left
-  at-moves : (a : ℕ) (own : Outcome) (t : Bool) (x : A) → f (own .device) ≡ cond t x (f d) → f (atOf d a own .device) ≡ cond (ownOf d a && t) x (f d)
+  pub at-moves : (a : ℕ) (own : Outcome) (t : Bool) (x : A) → f (own .device) ≡ cond t x (f d) → f (atOf d a own .device) ≡ cond (ownOf d a && t) x (f d)
   unfolding addressOf
   at-moves a own t x h = split (ownOf d a)
     where
@@ -66,7 +66,7 @@ module _ {A : Type 0} (f : Device → A) (d : Device) where
       split true = h
       split false = refl
 
-  at-leaves : (a : ℕ) (own : Outcome) → f (own .device) ≡ f d → f (atOf d a own .device) ≡ f d
+  pub at-leaves : (a : ℕ) (own : Outcome) → f (own .device) ≡ f d → f (atOf d a own .device) ≡ f d
   at-leaves a own h = cond-ind (λ (o : Outcome). f (o .device) ≡ f d) (eqb a (addressOf (d .variant))) (λ _. h) (λ _. refl)
 
   receive-leaves : (a : ℕ) → f (respondOf d .device) ≡ f d → f (getOf d (d .pointer) .device) ≡ f d → f (effectOf d (Receive a) .device) ≡ f d
@@ -75,11 +75,11 @@ module _ {A : Type 0} (f : Device → A) (d : Device) where
       cond-ind (λ (o : Outcome). f (o .device) ≡ f d) (eqb a alertResponse) (λ _. respond) (λ _. at-leaves a (getOf d (d .pointer)) get)
 
   -- moved to x by an outcome under a test, else left
-  choice-moves : (t : Bool) (o : Outcome) (x : A) → f (o .device) ≡ x → f (cond t o (silentOf d) .device) ≡ cond t x (f d)
+  pub choice-moves : (t : Bool) (o : Outcome) (x : A) → f (o .device) ≡ x → f (cond t o (silentOf d) .device) ≡ cond t x (f d)
   choice-moves true o x h = h
   choice-moves false o x h = refl
 
-  put-moves : (w v : ℕ) (x : A) → f (writtenOf d w v) ≡ x → f (putOf d w v .device) ≡ cond (among w W) x (f d)
+  pub put-moves : (w v : ℕ) (x : A) → f (writtenOf d w v) ≡ x → f (putOf d w v .device) ≡ cond (among w W) x (f d)
   unfolding putOf writableOf
   put-moves w v x h = choice-moves (writableOf w) (answeredOf (writtenOf d w v) 0) x h
 
@@ -87,7 +87,7 @@ module _ {A : Type 0} (f : Device → A) (d : Device) where
   unfolding getOf readableOf
   get-moves r x h = choice-moves (readableOf r) (answeredOf (afterReadOf (pointedOf d r) r) (valueOf d r)) x h
 
-  point-moves : (r : ℕ) (x : A) → f (pointedOf d r) ≡ x → f (pointOf d r .device) ≡ cond (namedOf r) x (f d)
+  pub point-moves : (r : ℕ) (x : A) → f (pointedOf d r) ≡ x → f (pointOf d r .device) ≡ cond (namedOf r) x (f d)
   unfolding pointOf knownOf readableOf writableOf
   point-moves r x h = choice-moves (knownOf r) (answeredOf (pointedOf d r) 0) x h
 
@@ -95,7 +95,7 @@ module _ {A : Type 0} (f : Device → A) (d : Device) where
   unfolding respondOf
   respond-leaves h = cond-ind (λ (o : Outcome). f (o .device) ≡ f d) (respondsOf d) (λ _. h) (λ _. refl)
 
-  sense-moves : (local : ℕ) (remote : ℤ) (broken : Bool) (x : A) → f (convertedOf d local remote broken) ≡ x
+  pub sense-moves : (local : ℕ) (remote : ℤ) (broken : Bool) (x : A) → f (convertedOf d local remote broken) ≡ x
       → f (senseOf d local remote broken .device) ≡ cond (takenOf d) x (f d)
   unfolding senseOf takesOf
   sense-moves local remote broken x h = choice-moves (takesOf d) _ x h
@@ -365,7 +365,7 @@ faults-moves d PowerOn = refl
 -- ---- acknowledged and taken
 
 module _ (d : Device) where
-  at-acknowledged : (a : ℕ) (own : Outcome) (t : Bool) → own .acknowledged ≡ t → atOf d a own .acknowledged ≡ (ownOf d a && t)
+  pub at-acknowledged : (a : ℕ) (own : Outcome) (t : Bool) → own .acknowledged ≡ t → atOf d a own .acknowledged ≡ (ownOf d a && t)
   unfolding addressOf
   at-acknowledged a own t h = split (ownOf d a)
     where
@@ -390,7 +390,7 @@ module _ (d : Device) where
   point-acknowledged r = answered-or-silent (knownOf r) (pointedOf d r) 0
 
   -- P7 under BF D0 = 0 looks at status
-  responds-exactly : respondsOf d ≡ answersAlert d
+  pub responds-exactly : respondsOf d ≡ answersAlert d
   unfolding respondsOf alertOf watchedOf comparatorOf
   responds-exactly = split (not (anySet (byteAt d 0x03) 0x80)) (anySet (byteAt d 0xBF) 0x01)
     where

@@ -1,13 +1,14 @@
 -- Each part of a device after an event, part by part: a second account of `effectOf`, which goes event by event. Registers, bits and
 -- addresses stand here as document 01 prints them. `proofs/Moves.antt` says that the two accounts agree for every device and event.
 -- Assumes nothing.
-use Prim.Native.Nat.{ℕ, _+_, min}
+use Prim.Native.Nat.{ℕ, _+_, _-_, min}
 use mathlib.Core.Bool.{Bool, false, not, _||_, _&&_, cond}
+use mathlib.Core.List.{List, [], _∷_}
 use lib.IntN.{ℤ, pos, _+ℤ_, _*ℤ_}
 use lib.Signed.{ltZ}
-use lib.Dec.{eqb}
+use lib.Dec.{eqb, ltb}
 use lib.Bits.{bitAnd, bitOr}
-use Rattle.temperature.specs.Temperature.{degreesOf, eighthsOf, heldOf}
+use Rattle.temperature.specs.Temperature.{degreesOf, eighthsOf, heldOf, highByteOf, lowByteOf}
 use Rattle.registers.specs.Page.{R, W, among, settingOf}
 use Rattle.device.specs.declared.Device.{Device}
 use Rattle.device.specs.declared.Event.{Event}
@@ -150,3 +151,81 @@ takenBy d (Receive a) = false
 takenBy d (Convert local high low) = takenOf d
 takenBy d (Open local) = takenOf d
 takenBy d PowerOn = false
+
+-- ---- the settings
+
+-- the fourteen settable bytes, by the numbers at which they are written
+abbrev pub fourteen : List ℕ
+fourteen = 0x09 ∷ 0x0A ∷ 0x0B ∷ 0x0C ∷ 0x0D ∷ 0x0E ∷ 0x11 ∷ 0x12 ∷ 0x13 ∷ 0x14 ∷ 0x19 ∷ 0x20 ∷ 0x21 ∷ 0xBF ∷ []
+
+-- 09 to 0E are 03 to 08 in that order; the others keep their number
+abbrev pub readNumber : ℕ → ℕ
+readNumber w = cond (ltb w 0x0F) (w - 6) w
+
+-- kept bits: 03 D5h; 12, 13, 14 E0h; 21 1Fh; BF 07h; others all
+abbrev pub keptBits : ℕ → ℕ
+keptBits r =
+    cond (eqb r 0x03) 0xD5
+    (cond (among r (0x12 ∷ 0x13 ∷ 0x14 ∷ [])) 0xE0
+    (cond (eqb r 0x21) 0x1F
+    (cond (eqb r 0xBF) 0x07
+    0xFF)))
+
+-- 004's table: rate 8, high limits 70, remote T_CRIT 110, local T_CRIT 85 or for variant 3 105, hysteresis 10, the others 0
+abbrev pub startByte : ℕ → ℕ → ℕ
+startByte variant r =
+    cond (eqb r 0x04) 8
+    (cond (eqb r 0x05) 70
+    (cond (eqb r 0x07) 70
+    (cond (eqb r 0x19) 110
+    (cond (eqb r 0x20) (cond (eqb variant 3) 105 85)
+    (cond (eqb r 0x21) 10
+    0)))))
+
+-- P6: a status read finds BF D0 0 and a bit of 7B set
+abbrev pub findsAlert : Device → Bool
+findsAlert d = not (anySet (byteAt d 0xBF) 0x01) && anySet (d .status) 0x7B
+
+-- the byte of the register that is read at q, with D7 of 03 set under a test
+abbrev pub maskedAt : Device → Bool → ℕ → ℕ
+maskedAt d test q = cond (test && eqb q 0x03) (bitOr (byteAt d q) 0x80) (byteAt d q)
+
+-- the byte of the register that is read at q: a write to it gives it the value's kept bits; P6, P9: a status read that finds an alert, and
+-- an answered alert response, set the mask bit, D7 of 03, and no other; nothing else moves any of the fourteen
+abbrev pub settingAfter : Device → Event → ℕ → ℕ
+settingAfter d (Write a w v) q = cond (ownOf d a && (among w fourteen && eqb q (readNumber w))) (bitAnd v (keptBits q)) (byteAt d q)
+settingAfter d (Read a r) q = maskedAt d (ownOf d a && (eqb r 0x02 && findsAlert d)) q
+settingAfter d (Send a r) q = byteAt d q
+settingAfter d (Receive a) q = maskedAt d ((ownOf d a && (eqb (d .pointer) 0x02 && findsAlert d)) || (eqb a 0x0C && answersAlert d)) q
+settingAfter d (Convert local high low) q = byteAt d q
+settingAfter d (Open local) q = byteAt d q
+settingAfter d PowerOn q = startByte (d .variant) q
+
+-- ---- the byte read
+
+-- the byte of a register in R, with the die revision of variant 1, 2 and 3 at FF
+abbrev pub shownAt : Device → ℕ → ℕ → ℕ → ℕ
+shownAt d manufacturer revision r =
+    cond (eqb r 0x00) (d .sensed .local)
+    (cond (eqb r 0x01) (highByteOf (d .sensed .remote))
+    (cond (eqb r 0x02) (d .status)
+    (cond (eqb r 0x10) (lowByteOf (d .sensed .remote))
+    (cond (eqb r 0xFE) manufacturer
+    (cond (eqb r 0xFF) revision
+    (byteAt d r))))))
+
+abbrev pub registerByte : Device → ℕ → ℕ
+registerByte d = shownAt d 0x01 (cond (eqb (d .variant) 1) 0x31 (cond (eqb (d .variant) 2) 0x34 0x35))
+
+-- P9: the alert response is answered with the address times 2 plus 1; where no byte is read it is 0
+abbrev pub byteRead : Device → Event → ℕ
+byteRead d (Write a w v) = 0
+byteRead d (Read a r) = cond (ownOf d a && among r R) (registerByte d r) 0
+byteRead d (Send a r) = 0
+byteRead d (Receive a) =
+    cond (ownOf d a && among (d .pointer) R) (registerByte d (d .pointer))
+    (cond (eqb a 0x0C && answersAlert d) (cond (eqb (d .variant) 1) 0x99 0x9B)
+    0)
+byteRead d (Convert local high low) = 0
+byteRead d (Open local) = 0
+byteRead d PowerOn = 0
