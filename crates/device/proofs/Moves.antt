@@ -1,0 +1,461 @@
+-- What moves each part of a device, for every device and event: `pointer-moves`, `pending-moves`, `local-moves`, `remote-moves`,
+-- `faults-moves` and `status-moves`; and what is acknowledged and taken: `acknowledged-exactly` and `taken-exactly`.
+-- Assumes nothing.
+use mathlib.Core.Path.{_≡_, refl, sym, ap, _∙_}
+use mathlib.Core.Bool.{Bool, true, false, not, cond, _||_, _&&_, and-true, and-false}
+use mathlib.Core.List.{List, [], _∷_}
+use Prim.Native.Nat.{ℕ, _+_, _*_, min}
+use lib.IntN.{ℤ, pos, _*ℤ_, +ℤ-idr}
+use lib.Signed.{ltZ}
+use lib.Dec.{eqb}
+use lib.Bits.{bitAnd, bitOr}
+use borrow.Author.Tests.{eqb-true, ne-eqb}
+use Rattle.laws.proofs.Choices.{cond-ind, by-test, clash}
+use Rattle.temperature.specs.Temperature.{degreesOf, eighthsOf, sumOf}
+use Rattle.registers.specs.Page.{R, W, among, readableOf, writableOf, knownOf, addressOf, readAtOf, keptOf, settingOf, changedOf, readPositionOf, readOnlyOf}
+use Rattle.registers.proofs.Entries.{zero-at}
+use Rattle.conversion.specs.declared.Sensed.{Sensed}
+use Rattle.conversion.specs.Conversion.{readingOf, remoteLimitsOf, outOf, anyOf, countOf, sensedOf, remoteOutOf}
+use Rattle.device.specs.declared.Device.{Device}
+use Rattle.device.specs.declared.Outcome.{Outcome}
+use Rattle.device.specs.declared.Event.{Event}
+use Rattle.device.specs.declared.Event.the-variants.{Write, Read, Send, Receive, Convert, Open, PowerOn}
+use Rattle.device.specs.Pins.{comparatorOf, watchedOf, alertOf}
+use Rattle.device.specs.Bus.{silentOf, answeredOf, standbyOf, maskedOf, storedOf, storedIn, firedOf, writtenOf, putOf, pointedOf, statusClearedOf}
+use Rattle.device.specs.Bus.{afterReadOf, statusReadOf, valueOf, getOf, pointOf, respondsOf, respondOf, takesOf, convertedOf, senseOf}
+use Rattle.device.specs.Bus.{poweredOf, alertResponse, atOf}
+use Rattle.device.specs.Moves.{byteAt, ownOf, anySet, inStandby, takenOf, namedOf, pointerAfter, pendingAfter, localAfter, remoteAfter, countAfter}
+use Rattle.device.specs.Moves.{sampleOf, faultsAfter, statusAfter, answersAlert, acknowledgedOf, takenBy}
+use Rattle.device.specs.Ranges.{rangedOf}
+use Rattle.device.specs.Step.{effectOf}
+use Rattle.device.proofs.Changes.{on-list, setting-other, and-assoc}
+use Rattle.device.proofs.InRange.{named}
+use Rattle.device.proofs.Untouched.{still}
+
+-- ---- choices
+
+pub cond-same : {A : Type 0} (t : Bool) (x : A) → cond t x x ≡ x
+cond-same true x = refl
+cond-same false x = refl
+
+pub or-false : (t : Bool) → (t || false) ≡ t
+or-false true = refl
+or-false false = refl
+
+-- a number outside a list is none of the list's
+pub outside : (l : List ℕ) (k x : ℕ) → among k l ≡ true → among x l ≡ false → eqb x k ≡ false
+outside l k x inside e = ne-eqb x k (λ q. clash (sym e ∙ ap (λ (y : ℕ). among y l) q ∙ inside))
+
+-- 0C is no device's own address
+pub response-apart : (d : Device) (a : ℕ) → eqb a alertResponse ≡ true → ownOf d a ≡ false
+response-apart d a e = ap (ownOf d) (eqb-true a alertResponse e) ∙ split (eqb (d .variant) 1)
+  where
+    split : (t : Bool) → eqb alertResponse (cond t 0x4C 0x4D) ≡ false
+    split true = refl
+    split false = refl
+
+-- ---- a part f of the device, at each kind of event
+
+module _ {A : Type 0} (f : Device → A) (d : Device) where
+  -- moved to x at the own address under a test, else left
+  pub at-moves : (a : ℕ) (own : Outcome) (t : Bool) (x : A) → f (own .device) ≡ cond t x (f d) → f (atOf d a own .device) ≡ cond (ownOf d a && t) x (f d)
+  unfolding addressOf
+  at-moves a own t x h = split (ownOf d a)
+    where
+      split : (s : Bool) → f (cond s own (silentOf d) .device) ≡ cond (s && t) x (f d)
+      split true = h
+      split false = refl
+
+  pub at-leaves : (a : ℕ) (own : Outcome) → f (own .device) ≡ f d → f (atOf d a own .device) ≡ f d
+  at-leaves a own h = cond-ind (λ (o : Outcome). f (o .device) ≡ f d) (eqb a (addressOf (d .variant))) (λ _. h) (λ _. refl)
+
+  receive-leaves : (a : ℕ) → f (respondOf d .device) ≡ f d → f (getOf d (d .pointer) .device) ≡ f d → f (effectOf d (Receive a) .device) ≡ f d
+  unfolding effectOf
+  receive-leaves a respond get =
+      cond-ind (λ (o : Outcome). f (o .device) ≡ f d) (eqb a alertResponse) (λ _. respond) (λ _. at-leaves a (getOf d (d .pointer)) get)
+
+  -- moved to x by an outcome under a test, else left
+  pub choice-moves : (t : Bool) (o : Outcome) (x : A) → f (o .device) ≡ x → f (cond t o (silentOf d) .device) ≡ cond t x (f d)
+  choice-moves true o x h = h
+  choice-moves false o x h = refl
+
+  pub put-moves : (w v : ℕ) (x : A) → f (writtenOf d w v) ≡ x → f (putOf d w v .device) ≡ cond (among w W) x (f d)
+  unfolding putOf writableOf
+  put-moves w v x h = choice-moves (writableOf w) (answeredOf (writtenOf d w v) 0) x h
+
+  get-moves : (r : ℕ) (x : A) → f (afterReadOf (pointedOf d r) r) ≡ x → f (getOf d r .device) ≡ cond (among r R) x (f d)
+  unfolding getOf readableOf
+  get-moves r x h = choice-moves (readableOf r) (answeredOf (afterReadOf (pointedOf d r) r) (valueOf d r)) x h
+
+  pub point-moves : (r : ℕ) (x : A) → f (pointedOf d r) ≡ x → f (pointOf d r .device) ≡ cond (namedOf r) x (f d)
+  unfolding pointOf knownOf readableOf writableOf
+  point-moves r x h = choice-moves (knownOf r) (answeredOf (pointedOf d r) 0) x h
+
+  respond-leaves : f (maskedOf d) ≡ f d → f (respondOf d .device) ≡ f d
+  unfolding respondOf
+  respond-leaves h = cond-ind (λ (o : Outcome). f (o .device) ≡ f d) (respondsOf d) (λ _. h) (λ _. refl)
+
+  pub sense-moves : (local : ℕ) (remote : ℤ) (broken : Bool) (x : A) → f (convertedOf d local remote broken) ≡ x
+      → f (senseOf d local remote broken .device) ≡ cond (takenOf d) x (f d)
+  unfolding senseOf takesOf
+  sense-moves local remote broken x h = choice-moves (takesOf d) _ x h
+
+-- what holds of a device before a read, and of it with status cleared and the mask set or not, holds after the read
+read-ind : (P : Device → Type 0) (d : Device) (r : ℕ)
+    → (eqb r 0x02 ≡ false → P d) → (eqb r 0x02 ≡ true → P (statusClearedOf d)) → (eqb r 0x02 ≡ true → P (maskedOf (statusClearedOf d)))
+    → P (afterReadOf d r)
+unfolding statusReadOf
+read-ind P d r plain cleared masked =
+    cond-ind P (eqb r 0x02) (λ t. cond-ind P (not (comparatorOf d) && anySet (d .status) 0x7B) (λ _. masked t) (λ _. cleared t)) plain
+
+-- ---- the pointer
+
+module _ (d : Device) where
+  written-pointer : (w v : ℕ) → writtenOf d w v .pointer ≡ w
+  unfolding firedOf storedOf
+  written-pointer w v = cond-ind (λ (e : Device). e .pointer ≡ w) (eqb w 0x0F) (λ t. sym (eqb-true w 0x0F t)) (λ _. refl)
+
+  read-pointer : (r : ℕ) → afterReadOf (pointedOf d r) r .pointer ≡ r
+  unfolding maskedOf
+  read-pointer r = read-ind (λ (e : Device). e .pointer ≡ r) (pointedOf d r) r (λ _. refl) (λ _. refl) (λ _. refl)
+
+  masked-pointer : maskedOf d .pointer ≡ d .pointer
+  unfolding maskedOf
+  masked-pointer = refl
+
+  converted-pointer : (local : ℕ) (remote : ℤ) (broken : Bool) → senseOf d local remote broken .device .pointer ≡ d .pointer
+  unfolding convertedOf
+  converted-pointer local remote broken =
+      sense-moves (λ (e : Device). e .pointer) d local remote broken (d .pointer) refl ∙ cond-same (takenOf d) (d .pointer)
+
+pub pointer-moves : (d : Device) (e : Event) → effectOf d e .device .pointer ≡ pointerAfter d e
+unfolding effectOf poweredOf
+pointer-moves d (Write a w v) =
+    at-moves (λ (e : Device). e .pointer) d a (putOf d w v) (among w W) w (put-moves (λ (e : Device). e .pointer) d w v w (written-pointer d w v))
+pointer-moves d (Read a r) =
+    at-moves (λ (e : Device). e .pointer) d a (getOf d r) (among r R) r (get-moves (λ (e : Device). e .pointer) d r r (read-pointer d r))
+pointer-moves d (Send a r) =
+    at-moves (λ (e : Device). e .pointer) d a (pointOf d r) (namedOf r) r (point-moves (λ (e : Device). e .pointer) d r r refl)
+pointer-moves d (Receive a) =
+    receive-leaves (λ (e : Device). e .pointer) d a (respond-leaves (λ (e : Device). e .pointer) d (masked-pointer d))
+    (get-moves (λ (e : Device). e .pointer) d (d .pointer) (d .pointer) (read-pointer d (d .pointer)) ∙ cond-same (among (d .pointer) R) (d .pointer))
+pointer-moves d (Convert local high low) = converted-pointer d local _ false
+pointer-moves d (Open local) = converted-pointer d local _ true
+pointer-moves d PowerOn = refl
+
+-- ---- the pending one-shot
+
+-- the byte of 03 changed, of a device in standby
+configuration-changed : (s : List ℕ) (b : ℕ) → standbyOf s ≡ true → settingOf (changedOf s 0x03 b) 0x03 ≡ b
+unfolding settingOf changedOf readPositionOf
+configuration-changed [] b e = clash e
+configuration-changed (x ∷ xs) b e = refl
+
+at-09 : (d : Device) (v : ℕ) → storedIn d 0x09 v ≡ changedOf (d .settings) 0x03 (bitAnd v 0xD5)
+unfolding readAtOf keptOf
+at-09 d v = refl
+
+-- of the writable registers 09 alone is 03
+only-09 : (w : ℕ) → among w W ≡ true → eqb 0x03 (readAtOf w) ≡ eqb w 0x09
+unfolding readAtOf
+only-09 = on-list (λ x. eqb 0x03 (readAtOf x)) (λ x. eqb x 0x09) W refl
+
+-- in standby a write stays in it, but for one to 09 with D6 clear
+stored-standby : (d : Device) (w v : ℕ) → among w W ≡ true → standbyOf (d .settings) ≡ true
+    → standbyOf (storedIn d w v) ≡ cond (eqb w 0x09 && not (anySet v 0x40)) false true
+stored-standby d w v may st = by-test (eqb w 0x09) (λ t. rw t (leaves t)) (λ t. rw t (stays t))
+  where
+    twice : (t : Bool) → t ≡ cond (not t) false true
+    twice true = refl
+    twice false = refl
+
+    leaves : eqb w 0x09 ≡ true → standbyOf (storedIn d w v) ≡ cond (not (anySet v 0x40)) false true
+    leaves t =
+        ap (λ (x : ℕ). standbyOf (storedIn d x v)) (eqb-true w 0x09 t)
+        ∙ ap standbyOf (at-09 d v)
+        ∙ ap (λ (x : ℕ). anySet x 0x40) (configuration-changed (d .settings) (bitAnd v 0xD5) st)
+        ∙ ap (λ (x : ℕ). not (eqb x 0)) (and-assoc v 0xD5 0x40)
+        ∙ twice (anySet v 0x40)
+
+    stays : eqb w 0x09 ≡ false → standbyOf (storedIn d w v) ≡ true
+    stays t = ap (λ (x : ℕ). anySet x 0x40) (setting-other (d .settings) 0x03 (readAtOf w) (bitAnd v (keptOf w)) (only-09 w may ∙ t)) ∙ st
+
+-- what a write at the own address leaves pending
+abbrev pendingPut : Device → ℕ → ℕ → Bool
+pendingPut d w v = cond (eqb w 0x0F) (inStandby d) (cond (eqb w 0x09 && not (anySet v 0x40)) false (d .pending))
+
+module _ (d : Device) (ranged : rangedOf d ≡ true) where
+  stored-pending : (w v : ℕ) → among w W ≡ true → storedOf d w v .pending ≡ cond (eqb w 0x09 && not (anySet v 0x40)) false (d .pending)
+  unfolding storedOf
+  stored-pending w v may = split (d .pending) (named d ranged .pending)
+    where
+      split : (p : Bool) → (not p || standbyOf (d .settings)) ≡ true
+          → (p && standbyOf (storedIn d w v)) ≡ cond (eqb w 0x09 && not (anySet v 0x40)) false p
+      split false e = sym (cond-same (eqb w 0x09 && not (anySet v 0x40)) false)
+      split true e = stored-standby d w v may e
+
+  fired-pending : firedOf d .pending ≡ inStandby d
+  unfolding firedOf
+  fired-pending = split (d .pending) (inStandby d) (named d ranged .pending)
+    where
+      split : (p s : Bool) → (not p || s) ≡ true → (p || s) ≡ s
+      split true s e = sym e
+      split false s e = refl
+
+  put-pending : (w v : ℕ) → putOf d w v .device .pending ≡ pendingPut d w v
+  unfolding putOf writableOf
+  put-pending w v = cond-ind (λ (o : Outcome). o .device .pending ≡ pendingPut d w v) (writableOf w) inside apart
+    where
+      inside : among w W ≡ true → writtenOf d w v .pending ≡ pendingPut d w v
+      inside m =
+          cond-ind (λ (e : Device). e .pending ≡ pendingPut d w v) (eqb w 0x0F) (λ t. rw t fired-pending) (λ t. rw t (stored-pending w v m))
+
+      apart : among w W ≡ false → d .pending ≡ pendingPut d w v
+      apart m = rw (outside W 0x0F w refl m, outside W 0x09 w refl m)
+
+  get-pending : (r : ℕ) → getOf d r .device .pending ≡ d .pending
+  unfolding maskedOf
+  get-pending r =
+      get-moves (λ (e : Device). e .pending) d r (d .pending)
+      (read-ind (λ (e : Device). e .pending ≡ d .pending) (pointedOf d r) r (λ _. refl) (λ _. refl) (λ _. refl))
+      ∙ cond-same (among r R) (d .pending)
+
+  point-pending : (r : ℕ) → pointOf d r .device .pending ≡ d .pending
+  point-pending r = point-moves (λ (e : Device). e .pending) d r (d .pending) refl ∙ cond-same (namedOf r) (d .pending)
+
+  write-pending : (a w v : ℕ) → effectOf d (Write a w v) .device .pending ≡ pendingAfter d (Write a w v)
+  unfolding effectOf addressOf
+  write-pending a w v = split (ownOf d a)
+    where
+      split : (s : Bool) → cond s (putOf d w v) (silentOf d) .device .pending
+          ≡ cond (s && eqb w 0x0F) (inStandby d) (cond (s && (eqb w 0x09 && not (anySet v 0x40))) false (d .pending))
+      split true = put-pending w v
+      split false = refl
+
+  pub pending-moves : (e : Event) → effectOf d e .device .pending ≡ pendingAfter d e
+  unfolding effectOf poweredOf maskedOf convertedOf
+  pending-moves (Write a w v) = write-pending a w v
+  pending-moves (Read a r) = at-leaves (λ (e : Device). e .pending) d a (getOf d r) (get-pending r)
+  pending-moves (Send a r) = at-leaves (λ (e : Device). e .pending) d a (pointOf d r) (point-pending r)
+  pending-moves (Receive a) =
+      receive-leaves (λ (e : Device). e .pending) d a (respond-leaves (λ (e : Device). e .pending) d refl) (get-pending (d .pointer))
+  pending-moves (Convert local high low) = sense-moves (λ (e : Device). e .pending) d local _ false false refl
+  pending-moves (Open local) = sense-moves (λ (e : Device). e .pending) d local _ true false refl
+  pending-moves PowerOn = refl
+
+-- ---- status
+
+module _ (d : Device) where
+  read-status : (r : ℕ) → afterReadOf (pointedOf d r) r .status ≡ cond (eqb r 0x02) 0 (d .status)
+  unfolding maskedOf
+  read-status r = read-ind (λ (e : Device). e .status ≡ cond (eqb r 0x02) 0 (d .status)) (pointedOf d r) r (λ t. rw t) (λ t. rw t) (λ t. rw t)
+
+  get-status : (r : ℕ) → getOf d r .device .status ≡ cond (eqb r 0x02) 0 (d .status)
+  unfolding getOf readableOf
+  get-status r = cond-ind (λ (o : Outcome). o .device .status ≡ cond (eqb r 0x02) 0 (d .status)) (readableOf r)
+      (λ _. read-status r)
+      (λ m. rw (outside R 0x02 r refl m))
+
+  put-status : (w v : ℕ) → putOf d w v .device .status ≡ d .status
+  unfolding firedOf storedOf
+  put-status w v =
+      put-moves (λ (e : Device). e .status) d w v (d .status)
+      (cond-ind (λ (e : Device). e .status ≡ d .status) (eqb w 0x0F) (λ _. refl) (λ _. refl))
+      ∙ cond-same (among w W) (d .status)
+
+  point-status : (r : ℕ) → pointOf d r .device .status ≡ d .status
+  point-status r = point-moves (λ (e : Device). e .status) d r (d .status) refl ∙ cond-same (namedOf r) (d .status)
+
+  receive-status : (a : ℕ) → effectOf d (Receive a) .device .status ≡ cond (ownOf d a && eqb (d .pointer) 0x02) 0 (d .status)
+  unfolding effectOf maskedOf
+  receive-status a =
+      cond-ind (λ (o : Outcome). o .device .status ≡ cond (ownOf d a && eqb (d .pointer) 0x02) 0 (d .status)) (eqb a alertResponse)
+      (λ t. rw (response-apart d a t) (respond-leaves (λ (e : Device). e .status) d refl))
+      (λ _. at-moves (λ (e : Device). e .status) d a (getOf d (d .pointer)) (eqb (d .pointer) 0x02) 0 (get-status (d .pointer)))
+
+  sense-status : (local : ℕ) (remote : ℤ) (broken : Bool) →
+      let o = senseOf d local remote broken in o .device .status ≡ cond (takenOf d) (bitOr (d .status) (o .device .sensed .live)) (d .status)
+  unfolding senseOf takesOf convertedOf
+  sense-status local remote broken = split (takesOf d)
+    where
+      after : Outcome
+      after = record { device = convertedOf d local remote broken; acknowledged = false; taken = true; byte = 0 }
+
+      split : (t : Bool) →
+          cond t after (silentOf d) .device .status ≡ cond t (bitOr (d .status) (cond t after (silentOf d) .device .sensed .live)) (d .status)
+      split true = refl
+      split false = refl
+
+pub status-moves : (d : Device) (e : Event) → effectOf d e .device .status ≡ statusAfter d e (effectOf d e .device .sensed .live)
+unfolding effectOf poweredOf
+status-moves d (Write a w v) = at-leaves (λ (e : Device). e .status) d a (putOf d w v) (put-status d w v)
+status-moves d (Read a r) = at-moves (λ (e : Device). e .status) d a (getOf d r) (eqb r 0x02) 0 (get-status d r)
+status-moves d (Send a r) = at-leaves (λ (e : Device). e .status) d a (pointOf d r) (point-status d r)
+status-moves d (Receive a) = receive-status d a
+status-moves d (Convert local high low) = sense-status d local _ false
+status-moves d (Open local) = sense-status d local _ true
+status-moves d PowerOn = zero-at (d .variant) 0x02 refl
+
+-- ---- the readings and the fault count
+
+pub local-moves : (d : Device) (e : Event) → effectOf d e .device .sensed .local ≡ localAfter d e
+unfolding effectOf poweredOf convertedOf sensedOf
+local-moves d (Write a w v) = ap (λ (s : Sensed). s .local) (still d (Write a w v) tt)
+local-moves d (Read a r) = ap (λ (s : Sensed). s .local) (still d (Read a r) tt)
+local-moves d (Send a r) = ap (λ (s : Sensed). s .local) (still d (Send a r) tt)
+local-moves d (Receive a) = ap (λ (s : Sensed). s .local) (still d (Receive a) tt)
+local-moves d (Convert local high low) = sense-moves (λ (e : Device). e .sensed .local) d local _ false local refl
+local-moves d (Open local) = sense-moves (λ (e : Device). e .sensed .local) d local _ true local refl
+local-moves d PowerOn = zero-at (d .variant) 0x00 refl
+
+powered-remote : (v : ℕ) → eighthsOf (readOnlyOf v 0x01) (readOnlyOf v 0x10) ≡ pos 0
+unfolding eighthsOf degreesOf
+powered-remote v = rw (zero-at v 0x01 refl, zero-at v 0x10 refl)
+
+pub remote-moves : (d : Device) (e : Event) → effectOf d e .device .sensed .remote ≡ remoteAfter d e
+unfolding effectOf poweredOf convertedOf sensedOf readingOf sumOf
+remote-moves d (Write a w v) = ap (λ (s : Sensed). s .remote) (still d (Write a w v) tt)
+remote-moves d (Read a r) = ap (λ (s : Sensed). s .remote) (still d (Read a r) tt)
+remote-moves d (Send a r) = ap (λ (s : Sensed). s .remote) (still d (Send a r) tt)
+remote-moves d (Receive a) = ap (λ (s : Sensed). s .remote) (still d (Receive a) tt)
+remote-moves d (Convert local high low) = sense-moves (λ (e : Device). e .sensed .remote) d local _ false (sampleOf d high low) refl
+remote-moves d (Open local) = sense-moves (λ (e : Device). e .sensed .remote) d local _ true (pos 1016) refl
+remote-moves d PowerOn = powered-remote (d .variant)
+
+-- a T_CRIT is its byte times 8
+crit-eighths : (b : ℕ) → eighthsOf b 0 ≡ degreesOf b *ℤ pos 8
+unfolding eighthsOf
+crit-eighths b = +ℤ-idr (degreesOf b *ℤ pos 8)
+
+count-outside : (d : Device) (t : ℤ) → countOf (d .sensed .faults) (anyOf (remoteOutOf (d .settings) t)) ≡ countAfter d t
+unfolding countOf anyOf outOf remoteLimitsOf
+count-outside d t = ap (λ (crit : ℤ). counted (ltZ crit t)) (crit-eighths (byteAt d 0x19)) ∙ split above below (ltZ (degreesOf (byteAt d 0x19) *ℤ pos 8) t)
+  where
+    above : Bool
+    above = ltZ (eighthsOf (byteAt d 0x07) (byteAt d 0x13)) t
+
+    below : Bool
+    below = ltZ t (eighthsOf (byteAt d 0x08) (byteAt d 0x14))
+
+    counted : Bool → ℕ
+    counted crit = cond (above || below || crit) (min 3 (d .sensed .faults + 1)) 0
+
+    split : (h l c : Bool) → cond (h || l || c) (min 3 (d .sensed .faults + 1)) 0 ≡ cond (not h && (not l && not c)) 0 (min 3 (d .sensed .faults + 1))
+    split true l c = refl
+    split false true c = refl
+    split false false true = refl
+    split false false false = refl
+
+converted-faults : (d : Device) (local : ℕ) (t : ℤ) (broken : Bool) → convertedOf d local t broken .sensed .faults ≡ countAfter d t
+unfolding convertedOf sensedOf
+converted-faults d local t broken = count-outside d t
+
+pub faults-moves : (d : Device) (e : Event) → effectOf d e .device .sensed .faults ≡ faultsAfter d e
+unfolding effectOf poweredOf readingOf sumOf
+faults-moves d (Write a w v) = ap (λ (s : Sensed). s .faults) (still d (Write a w v) tt)
+faults-moves d (Read a r) = ap (λ (s : Sensed). s .faults) (still d (Read a r) tt)
+faults-moves d (Send a r) = ap (λ (s : Sensed). s .faults) (still d (Send a r) tt)
+faults-moves d (Receive a) = ap (λ (s : Sensed). s .faults) (still d (Receive a) tt)
+faults-moves d (Convert local high low) =
+    let t = sampleOf d high low in sense-moves (λ (e : Device). e .sensed .faults) d local t false (countAfter d t) (converted-faults d local t false)
+faults-moves d (Open local) =
+    sense-moves (λ (e : Device). e .sensed .faults) d local (pos 1016) true (countAfter d (pos 1016)) (converted-faults d local (pos 1016) true)
+faults-moves d PowerOn = refl
+
+-- ---- acknowledged and taken
+
+module _ (d : Device) where
+  pub at-acknowledged : (a : ℕ) (own : Outcome) (t : Bool) → own .acknowledged ≡ t → atOf d a own .acknowledged ≡ (ownOf d a && t)
+  unfolding addressOf
+  at-acknowledged a own t h = split (ownOf d a)
+    where
+      split : (s : Bool) → cond s own (silentOf d) .acknowledged ≡ (s && t)
+      split true = h
+      split false = refl
+
+  answered-or-silent : (t : Bool) (e : Device) (byte : ℕ) → cond t (answeredOf e byte) (silentOf d) .acknowledged ≡ t
+  answered-or-silent true e byte = refl
+  answered-or-silent false e byte = refl
+
+  put-acknowledged : (w v : ℕ) → putOf d w v .acknowledged ≡ among w W
+  unfolding putOf writableOf
+  put-acknowledged w v = answered-or-silent (writableOf w) (writtenOf d w v) 0
+
+  get-acknowledged : (r : ℕ) → getOf d r .acknowledged ≡ among r R
+  unfolding getOf readableOf
+  get-acknowledged r = answered-or-silent (readableOf r) (afterReadOf (pointedOf d r) r) (valueOf d r)
+
+  point-acknowledged : (r : ℕ) → pointOf d r .acknowledged ≡ namedOf r
+  unfolding pointOf knownOf readableOf writableOf
+  point-acknowledged r = answered-or-silent (knownOf r) (pointedOf d r) 0
+
+  -- P7 under BF D0 = 0 looks at status
+  pub responds-exactly : respondsOf d ≡ answersAlert d
+  unfolding respondsOf alertOf watchedOf comparatorOf
+  responds-exactly = split (not (anySet (byteAt d 0x03) 0x80)) (anySet (byteAt d 0xBF) 0x01)
+    where
+      split : (m c : Bool) → ((m && anySet (cond c (d .sensed .live) (d .status)) 0x7B) && not c) ≡ (m && (not c && anySet (d .status) 0x7B))
+      split false c = refl
+      split true true = and-false (anySet (d .sensed .live) 0x7B)
+      split true false = and-true (anySet (d .status) 0x7B)
+
+  respond-acknowledged : respondOf d .acknowledged ≡ answersAlert d
+  unfolding respondOf
+  respond-acknowledged = answered-or-silent (respondsOf d) (maskedOf d) (addressOf (d .variant) * 2 + 1) ∙ responds-exactly
+
+  receive-acknowledged : (a : ℕ) → effectOf d (Receive a) .acknowledged ≡ ((ownOf d a && among (d .pointer) R) || (eqb a 0x0C && answersAlert d))
+  unfolding effectOf
+  receive-acknowledged a = by-test (eqb a 0x0C) respond get
+    where
+      respond : eqb a 0x0C ≡ true → effectOf d (Receive a) .acknowledged ≡ ((ownOf d a && among (d .pointer) R) || (eqb a 0x0C && answersAlert d))
+      respond t = rw (response-apart d a t, t) respond-acknowledged
+
+      get : eqb a 0x0C ≡ false → effectOf d (Receive a) .acknowledged ≡ ((ownOf d a && among (d .pointer) R) || (eqb a 0x0C && answersAlert d))
+      get t =
+          rw (t, or-false (ownOf d a && among (d .pointer) R))
+          (at-acknowledged a (getOf d (d .pointer)) (among (d .pointer) R) (get-acknowledged (d .pointer)))
+
+  sense-unacknowledged : (local : ℕ) (remote : ℤ) (broken : Bool) → senseOf d local remote broken .acknowledged ≡ false
+  unfolding senseOf
+  sense-unacknowledged local remote broken = cond-ind (λ (o : Outcome). o .acknowledged ≡ false) (takesOf d) (λ _. refl) (λ _. refl)
+
+pub acknowledged-exactly : (d : Device) (e : Event) → effectOf d e .acknowledged ≡ acknowledgedOf d e
+unfolding effectOf
+acknowledged-exactly d (Write a w v) = at-acknowledged d a (putOf d w v) (among w W) (put-acknowledged d w v)
+acknowledged-exactly d (Read a r) = at-acknowledged d a (getOf d r) (among r R) (get-acknowledged d r)
+acknowledged-exactly d (Send a r) = at-acknowledged d a (pointOf d r) (namedOf r) (point-acknowledged d r)
+acknowledged-exactly d (Receive a) = receive-acknowledged d a
+acknowledged-exactly d (Convert local high low) = sense-unacknowledged d local _ false
+acknowledged-exactly d (Open local) = sense-unacknowledged d local _ true
+acknowledged-exactly d PowerOn = refl
+
+module _ (d : Device) where
+  sense-taken : (local : ℕ) (remote : ℤ) (broken : Bool) → senseOf d local remote broken .taken ≡ takenOf d
+  unfolding senseOf takesOf
+  sense-taken local remote broken = split (takesOf d)
+    where
+      split : (t : Bool) → cond t (record { device = convertedOf d local remote broken; acknowledged = false; taken = true; byte = 0 }) (silentOf d) .taken ≡ t
+      split true = refl
+      split false = refl
+
+  -- a choice between an acknowledgement and silence takes no conversion
+  none-taken : (t : Bool) (e : Device) (byte : ℕ) → cond t (answeredOf e byte) (silentOf d) .taken ≡ false
+  none-taken true e byte = refl
+  none-taken false e byte = refl
+
+  at-untaken : (a : ℕ) (own : Outcome) → own .taken ≡ false → atOf d a own .taken ≡ false
+  at-untaken a own h = cond-ind (λ (o : Outcome). o .taken ≡ false) (eqb a (addressOf (d .variant))) (λ _. h) (λ _. refl)
+
+pub taken-exactly : (d : Device) (e : Event) → effectOf d e .taken ≡ takenBy d e
+unfolding effectOf putOf getOf pointOf respondOf
+taken-exactly d (Write a w v) = at-untaken d a (putOf d w v) (none-taken d (writableOf w) (writtenOf d w v) 0)
+taken-exactly d (Read a r) = at-untaken d a (getOf d r) (none-taken d (readableOf r) (afterReadOf (pointedOf d r) r) (valueOf d r))
+taken-exactly d (Send a r) = at-untaken d a (pointOf d r) (none-taken d (knownOf r) (pointedOf d r) 0)
+taken-exactly d (Receive a) =
+    let p = d .pointer in
+    cond-ind (λ (o : Outcome). o .taken ≡ false) (eqb a alertResponse)
+    (λ _. none-taken d (respondsOf d) (maskedOf d) (addressOf (d .variant) * 2 + 1))
+    (λ _. at-untaken d a (getOf d p) (none-taken d (readableOf p) (afterReadOf (pointedOf d p) p) (valueOf d p)))
+taken-exactly d (Convert local high low) = sense-taken d local _ false
+taken-exactly d (Open local) = sense-taken d local _ true
+taken-exactly d PowerOn = refl
