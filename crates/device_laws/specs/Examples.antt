@@ -3,9 +3,9 @@
 -- Assumes nothing.
 use mathlib.Core.Path.{refl}
 use mathlib.Core.List.{List, [], _∷_}
 use Rattle.device.specs.declared.Event.the-variants.{Write, Read, Send, Receive, Convert, Open, PowerOn}
 use Rattle.device.specs.Opened.{deviceOpened}
-use Rattle.device.specs.Exchange.{does, Row, row, Worked}
+use Rattle.device_laws.specs.Exchange.{does, Row, row, Worked}
 
 abbrev pub rows : List Row
 rows =

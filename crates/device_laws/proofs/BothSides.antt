@@ -15,18 +15,18 @@ use Rattle.temperature.proofs.Laws.{eighths-within}
 use Rattle.temperature.specs.Temperature.{degreesOf, eighthsOf, clearedOf}
 use Rattle.registers.specs.Page.{settingOf}
 use Rattle.conversion.specs.Conversion.{latchOf, sensedOf}
 use Rattle.device.specs.declared.Event.{Event}
 use Rattle.device.specs.declared.Event.the-variants.{Write, Read, Send, Receive, Convert, Open, PowerOn}
 use Rattle.device.specs.Bus.{takesOf, convertedOf, senseOf, poweredOf}
 use Rattle.device.specs.Opened.{deviceOpened}
 use Rattle.device.specs.Step.{effectOf, stepOf}
 use Rattle.device.specs.declared.Device.{Device}
 use Rattle.device.specs.declared.Outcome.{Outcome}
 use Rattle.device.specs.Profile.{IsConversion}
 use Rattle.device.specs.Run.{repliesOf, afterOf}
-use Rattle.device.specs.Exchange.{eventsIn, repliesIn}
-use Rattle.device.specs.BothSides.{heard, Line, table, Conversions, BothSides}
+use Rattle.device_laws.specs.Exchange.{eventsIn, repliesIn}
+use Rattle.device_laws.specs.BothSides.{heard, Line, table, Conversions, BothSides}
 use Rattle.device.proofs.Steps.{step-ind}
 
 ten-lines : map (λ (l : Line). repliesOf (afterOf (poweredOf 1) (l .scene)) (eventsIn (l .exchanges))) table
     ≡ map (λ (l : Line). repliesIn (l .exchanges)) table

@@ -16,21 +16,21 @@ use Rattle.registers.specs.Page.{R, W, among, readableOf, writableOf, knownOf, 
 use Rattle.registers.proofs.Entries.{zero-at}
 use Rattle.conversion.specs.declared.Sensed.{Sensed}
 use Rattle.conversion.specs.Conversion.{readingOf, remoteLimitsOf, outOf, anyOf, countOf, sensedOf, remoteOutOf}
 use Rattle.device.specs.declared.Device.{Device}
 use Rattle.device.specs.declared.Outcome.{Outcome}
 use Rattle.device.specs.declared.Event.{Event}
 use Rattle.device.specs.declared.Event.the-variants.{Write, Read, Send, Receive, Convert, Open, PowerOn}
 use Rattle.device.specs.Pins.{comparatorOf, watchedOf, alertOf}
 use Rattle.device.specs.Bus.{silentOf, answeredOf, standbyOf, maskedOf, storedOf, storedIn, firedOf, writtenOf, putOf, pointedOf, statusClearedOf}
 use Rattle.device.specs.Bus.{afterReadOf, statusReadOf, valueOf, getOf, pointOf, respondsOf, respondOf, takesOf, convertedOf, senseOf}
 use Rattle.device.specs.Bus.{poweredOf, alertResponse, atOf}
-use Rattle.device.specs.Moves.{byteAt, ownOf, anySet, inStandby, takenOf, namedOf, pointerAfter, pendingAfter, localAfter, remoteAfter, countAfter}
-use Rattle.device.specs.Moves.{sampleOf, faultsAfter, statusAfter, answersAlert, acknowledgedOf, takenBy}
+use Rattle.device_laws.specs.Moves.{byteAt, ownOf, anySet, inStandby, takenOf, namedOf, pointerAfter, pendingAfter, localAfter, remoteAfter, countAfter}
+use Rattle.device_laws.specs.Moves.{sampleOf, faultsAfter, statusAfter, answersAlert, acknowledgedOf, takenBy}
 use Rattle.device.specs.Ranges.{rangedOf}
 use Rattle.device.specs.Step.{effectOf}
-use Rattle.device.proofs.Changes.{on-list, setting-other, and-assoc}
+use Rattle.device_laws.proofs.Changes.{on-list, setting-other, and-assoc}
 use Rattle.device.proofs.InRange.{named}
 use Rattle.device.proofs.Untouched.{still}
 
 -- ---- choices
 

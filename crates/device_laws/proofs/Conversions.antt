@@ -16,13 +16,13 @@ use Rattle.conversion.specs.Conversion.{readingOf, sensedOf}
 use Rattle.conversion.specs.AfterConversion.{SameLimits}
 use Rattle.conversion.proofs.AfterConversion.{after-conversion, same-live}
 use Rattle.conversion.proofs.Bits.{has-or}
 use Rattle.device.specs.declared.Device.{Device}
 use Rattle.device.specs.declared.Event.{Event}
 use Rattle.device.specs.declared.Event.the-variants.{Write, Read, Send, Receive, Convert, Open, PowerOn}
 use Rattle.device.specs.Bus.{takesOf, convertedOf, senseOf}
 use Rattle.device.specs.Profile.{IsConversion}
 use Rattle.device.specs.Step.{effectOf}
-use Rattle.device.specs.Conversions.{localIn, openIn, readingIn, Converted, afterAll, Fault, Faults}
+use Rattle.device_laws.specs.Conversions.{localIn, openIn, readingIn, Converted, afterAll, Fault, Faults}
 
 reading-in : (d : Device) (local high low : ℕ) → readingOf (d .settings) high low ≡ readingIn d (Convert local high low)
 unfolding readingOf heldOf sumOf

@@ -6,12 +6,12 @@ use mathlib.Core.Logic.{_↔_}
 use mathlib.Core.Bool.{and-false}
 use Rattle.laws.proofs.Choices.{by-test}
 use Rattle.laws.proofs.Exactly.{by-lines}
 use Rattle.device.specs.declared.Device.{Device}
 use Rattle.device.specs.declared.Event.{Event}
 use Rattle.device.specs.Ranges.{variantOf, rangedOf, operandsOf}
 use Rattle.device.specs.Step.{stepOf}
-use Rattle.device.specs.Codes.{Steps}
-use Rattle.device.specs.Codes.Steps.{no-variant, out-of-ranges, operand, stepped}
+use Rattle.device_laws.specs.Codes.{Steps}
+use Rattle.device_laws.specs.Codes.Steps.{no-variant, out-of-ranges, operand, stepped}
 
 module _ (d : Device) (e : Event) where
   steps : (code : ℕ) → Steps d e code → stepOf d e .code ≡ code

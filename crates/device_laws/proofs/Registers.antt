@@ -16,19 +16,19 @@ use Rattle.registers.specs.declared.Position.the-variants.{At, Nowhere}
 use Rattle.registers.specs.Page.{R, W, Settable, settable, among, onPosition, readableOf, writableOf, knownOf, addressOf, readAtOf, keptOf, settableOf}
 use Rattle.registers.specs.Page.{readPositionOf, settingOf, powerOnOf, readOnlyOf}
 use Rattle.registers.proofs.Settings.{somewhere, settable-position}
 use Rattle.device.specs.declared.Device.{Device}
 use Rattle.device.specs.declared.Outcome.{Outcome}
 use Rattle.device.specs.declared.Event.{Event}
 use Rattle.device.specs.declared.Event.the-variants.{Write, Read, Send, Receive, Convert, Open, PowerOn}
 use Rattle.device.specs.Pins.{comparatorOf}
 use Rattle.device.specs.Bus.{silentOf, answeredOf, maskedOf, storedOf, firedOf, putOf, pointedOf, statusReadOf, statusClearedOf}
 use Rattle.device.specs.Bus.{afterReadOf, readOnlyValueOf, valueOf, getOf, pointOf, respondsOf, respondOf, convertedOf, takesOf, senseOf, poweredOf, atOf}
-use Rattle.device.specs.Moves.{byteAt, ownOf, takenOf, namedOf, fourteen, readNumber, keptBits, startByte, findsAlert, maskedAt, answersAlert}
-use Rattle.device.specs.Moves.{settingAfter, shownAt, registerByte, byteRead}
+use Rattle.device_laws.specs.Moves.{byteAt, ownOf, takenOf, namedOf, fourteen, readNumber, keptBits, startByte, findsAlert, maskedAt, answersAlert}
+use Rattle.device_laws.specs.Moves.{settingAfter, shownAt, registerByte, byteRead}
 use Rattle.device.specs.Ranges.{variantOf}
 use Rattle.device.specs.Step.{effectOf}
-use Rattle.device.proofs.Changes.{on-list, setting-changed}
-use Rattle.device.proofs.Moves.{cond-same, or-false, outside, response-apart, at-moves, at-leaves, point-moves, sense-moves, responds-exactly}
+use Rattle.device_laws.proofs.Changes.{on-list, setting-changed}
+use Rattle.device_laws.proofs.Moves.{cond-same, or-false, outside, response-apart, at-moves, at-leaves, point-moves, sense-moves, responds-exactly}
 
 -- ---- choices
 

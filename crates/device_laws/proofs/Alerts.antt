@@ -19,13 +19,13 @@ use Rattle.registers.specs.Bits.{has, alerting}
 use Rattle.registers.specs.Page.{find, onPosition, readableOf, settableOf, readPositionOf, settingOf, changedOf, addressOf}
 use Rattle.conversion.specs.Conversion.{bitOf}
 use Rattle.conversion.proofs.Bits.{has-or, bit-of, and-false, and-true, or-false}
 use Rattle.device.specs.declared.Device.{Device}
 use Rattle.device.specs.declared.Outcome.{Outcome}
 use Rattle.device.specs.declared.Event.the-variants.{Read, Receive}
 use Rattle.device.specs.Pins.{comparatorOf, watchedOf, alertOf, tcritOf, pinsOf, firstOf}
 use Rattle.device.specs.Bus.{maskedOf, statusReadOf, readOnlyValueOf, valueOf, getOf, respondsOf, respondOf}
 use Rattle.device.specs.Step.{effectOf, answerOf}
-use Rattle.device.specs.Alerts.{anyOfSix, Responds, StatusRead, FirstByte}
+use Rattle.device_laws.specs.Alerts.{anyOfSix, Responds, StatusRead, FirstByte}
 
 -- ---- ALERT
 

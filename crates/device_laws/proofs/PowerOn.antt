@@ -11,12 +11,12 @@ use Rattle.laws.proofs.Choices.{clash, and-right}
 use Rattle.temperature.specs.Temperature.{degreesOf, eighthsOf}
 use Rattle.registers.specs.Page.{powerOnOf}
 use Rattle.registers.proofs.Entries.{zero-at}
 use Rattle.device.specs.declared.Device.{Device}
 use Rattle.device.specs.declared.Event.the-variants.{PowerOn}
 use Rattle.device.specs.Bus.{silentOf, poweredOf}
 use Rattle.device.specs.Ranges.{variantOf}
 use Rattle.device.specs.Step.{effectOf}
-use Rattle.device.specs.PowerOn.{printedOf, PoweredOn}
+use Rattle.device_laws.specs.PowerOn.{printedOf, PoweredOn}
 
 pub forgets : (d e : Device) → d .variant ≡ e .variant → effectOf d PowerOn ≡ effectOf e PowerOn
 unfolding effectOf

@@ -1,0 +1,12 @@
+pub mod Codes
+pub mod Exchange
+pub mod Refusals
+pub mod Listing
+pub mod BothSides
+pub mod Examples
+pub mod Misread
+pub mod Ends
+pub mod PowerOn
+pub mod Alerts
+pub mod Conversions
+pub mod Moves
