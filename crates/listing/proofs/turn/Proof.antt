@@ -93,6 +93,7 @@ returns-3 c =
     let got = fed .before .before .before in
     let read = got .before .before .before .before in
     let start = read .before .before .before in
+    let next = lined .before .before .before .wrapping-add-u32 .ensures in
     let part : List ℕ = take (got .count .result) (read .read .last .1 .0) in
     λ _.
     record {
@@ -101,7 +102,7 @@ returns-3 c =
       text = _;
       turn =
           made (start .args .reader) part (fed .feed .ensures)
-          (lined .before .before .before .wrapping-add-u32 .ensures) (lined .record-lines .ensures) (simp length-take (omega arith)) (search needs) (search needs);
+          next (lined .record-lines .ensures) (simp length-take (omega arith)) (search needs) (search needs);
       reader = refl;
       goes = λ g. eqb-true _ _ (and-right (ltZ (pos 0) (toZ w64 (ofZ w64 (read .read .result)))) _ g);
     }
