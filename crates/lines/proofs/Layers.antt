@@ -70,7 +70,8 @@ module _ (word tail entry : List ℕ) (n : ℕ) {digits : List ℕ} {z : ℕ} (t
   pub no-tail : length entry - (length word + (10 - z)) < length tail → Lined line 0 entry entry
   no-tail h = let k = line-length in too-long line entry (omega arith)
 
-  pub all-three : {l last last′ : List ℕ} → length word ≤ length entry → 10 - z ≤ length entry - length word → length tail ≤ length entry - (length word + (10 - z))
+  pub all-three : {l last last′ : List ℕ} → length word ≤ length entry → 10 - z ≤ length entry - length word
+      → length tail ≤ length entry - (length word + (10 - z))
       → l ≡ take (length word) word ++ drop (length word) entry
       → (let middle : List ℕ = take (10 - z) (drop z digits) in
       let m : List ℕ = putMid (length word) (length l - length word) l last in

@@ -28,7 +28,8 @@ endRoom = 17
 
 -- ---- turns
 
--- one turn: a part is read and fed, and the lines of its answers are written, numbered on from the records done before it
+-- one turn: a part is read and fed, and the lines of its answers are written, numbered on from the records done before it; `lent` and
+-- `blank` are the program's buffers before the two calls, `answers` and `page` after them
 pub record Turn (s : Reader) (part : List ℕ) (r : Fed) (text : List ℕ) : Type 0 where
   pub lent : List ℕ
   pub answers : List ℕ
@@ -50,7 +51,9 @@ pub data Turns : Reader → List (List ℕ) → List ℕ → List ℕ → Reader
   goes-on : {s last : Reader} {part rest text texts : List ℕ} {parts : List (List ℕ)} {r : Fed} → Turn s part r text → r .code ≡ 0
       → Turns (r .reader) parts rest texts last → Turns s (part ∷ parts) rest (text ++ texts) last
 
--- ---- the output: the texts of the turns from a fresh state, in order, and the end line of the state that they leave
+-- ---- the output
+
+-- the texts of the turns from a fresh state, in order, and the end line of the state that they leave
 
 pub record Output (parts : List (List ℕ)) (rest output : List ℕ) : Type 0 where
   pub text : List ℕ

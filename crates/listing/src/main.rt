@@ -3,6 +3,9 @@ use capture::Reader;
 use libc::STDERR_FILENO;
 use libc::STDIN_FILENO;
 use libc::STDOUT_FILENO;
+ghost use mathlib.Core.Path.{_≡_};
+ghost use mathlib.Core.Bool.{false, _||_};
+ghost use Rattle.listing.specs.Turned.{TurnedUnlessFailed};
 
 // The reader after a turn; whether another turn follows; whether the end line does.
 struct Went {
@@ -11,7 +14,9 @@ struct Went {
     ends: bool,
 }
 
-fn fails(reader: Reader, message: &[u8]) -> Went {
+fn fails(reader: Reader, message: &[u8]) -> Went
+    ensures { λ w. ⌜ (w .goes || w .ends) ≡ false ⌝ }
+{
     io::write_all(STDERR_FILENO, message);
     Went {
         reader,
@@ -22,7 +27,9 @@ fn fails(reader: Reader, message: &[u8]) -> Went {
 
 // Reads once, feeds what came and writes its lines. There is room for all of them: 65,536 bytes and three carried ones hold at
 // most 16,384 records, of two answer bytes and a line of at most 17 bytes each.
-fn turn(reader: Reader) -> Went {
+fn turn(reader: Reader) -> Went
+    ensures { λ w. ⌜ TurnedUnlessFailed reader w ⌝ }
+{
     let mut bytes = io::large_buffer();
     let mut answers = [0; 32768];
     let mut text = [0; 278528];

@@ -96,12 +96,15 @@ same-length c = search needs
 
 returns-4 : tie.Need-returns-4
 returns-4 c =
-    let tests = c .before .before .before .before .before .before .before .before .before .before .before .before .before .before in
+    let third = c .before .before in
+    let second = third .before .before .before .before in
+    let first = second .before .before .before .before .before .before in
+    let tests = first .before .before in
     let z = tests .before .before .before in
     let s = z .before .before .before .before .before in
     all-three (s .args .word .now) (s .args .tail .now) (s .args .room .now) (s .args .n) (z .before .ten .ensures) (z .zeros .ensures)
     (tests .before .before .if1 .left) (tests .before .if2 .left) (tests .if3 .left)
-    (c .before .before .before .before .before .before .before .before .before .before .before .before .copy .ensures .1) (c .before .before .before .before .before .before .copy2 .ensures .1) (c .before .before .copy3 .ensures .1)
+    (first .copy .ensures .1) (second .copy2 .ensures .1) (third .copy3 .ensures .1)
 
 pub put-spec : {M : Type 1} → statement M
 put-spec =

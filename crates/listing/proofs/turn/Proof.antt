@@ -1,7 +1,19 @@
 -- Assumes nothing.
 use borrow.Author.Needs.{needs}
+use Prim.Native.Nat.{ℕ}
+use mathlib.Core.List.{List}
+use lib.IntN.{pos}
+use lib.Signed.{ltZ}
+use mir.Syntax.{w64}
+use mir.Val.{toZ, ofZ}
+use mathlib.Core.Path.{refl, sym, _∙_}
+use native.Mathlib.Omega.{arith}
+use lib.ListN.{take, length-take}
+use borrow.Author.Tests.{eqb-true}
+use Rattle.laws.proofs.Choices.{clash, and-right}
 use Rattle.io.proofs.Counting.{counts}
 use Rattle.lines.proofs.Layers.{inside, answers-inside}
+use Rattle.listing.proofs.Making.{made}
 use Rattle.listing.proofs.turn.Statement.{statement}
 use Rattle.listing.proofs.turn.Tie as tie
 
@@ -21,7 +33,7 @@ fails-requires : tie.Need-fails-requires
 fails-requires c κs = search needs
 
 returns : tie.Need-returns
-returns c = search needs
+returns c = λ e. clash (sym (c .fails .ensures) ∙ e)
 
 slice-aggregate-count : tie.Need-slice-aggregate-count
 slice-aggregate-count c = search needs
@@ -72,10 +84,28 @@ fails-requires-2 : tie.Need-fails-requires-2
 fails-requires-2 c κs = search needs
 
 returns-2 : tie.Need-returns-2
-returns-2 c = search needs
+returns-2 c = λ e. clash (sym (c .fails2 .ensures) ∙ e)
 
 returns-3 : tie.Need-returns-3
-returns-3 c = search needs
+returns-3 c =
+    let lined = c .before .before .before .before .before .before in
+    let fed = lined .before .before .before .before .before in
+    let got = fed .before .before .before in
+    let read = got .before .before .before .before in
+    let start = read .before .before .before in
+    let next = lined .before .before .before .wrapping-add-u32 .ensures in
+    let part : List ℕ = take (got .count .result) (read .read .last .1 .0) in
+    λ _.
+    record {
+      part = part;
+      r = fed .feed .result;
+      text = _;
+      turn =
+          made (start .args .reader) part (fed .feed .ensures)
+          next (lined .record-lines .ensures) (simp length-take (omega arith)) (search needs) (search needs);
+      reader = refl;
+      goes = λ g. eqb-true _ _ (and-right (ltZ (pos 0) (toZ w64 (ofZ w64 (read .read .result)))) _ g);
+    }
 
 pub turn-spec : {M : Type 1} → statement M
 turn-spec =
