@@ -1,5 +1,6 @@
 -- Each part of a device after an event, part by part: a second account of `effectOf`, which goes event by event. Registers, bits and
--- addresses stand here as document 01 prints them. `proofs/Moves.antt` says that the two accounts agree for every device and event.
+-- addresses stand here as document 01 prints them. `proofs/Moves.antt` and `proofs/Registers.antt` say that the two accounts agree for every
+-- device and event.
 -- Assumes nothing.
 use Prim.Native.Nat.{ℕ, _+_, _-_, min}
 use mathlib.Core.Bool.{Bool, true, false, not, _||_, _&&_, cond}
@@ -157,6 +158,7 @@ acknowledgedOf d (Convert local high low) = false
 acknowledgedOf d (Open local) = false
 acknowledgedOf d PowerOn = false
 
+-- P11: conversions alone are taken, and never acknowledged
 abbrev pub takenBy : Device → Event → Bool
 takenBy d (Write a w v) = false
 takenBy d (Read a r) = false
@@ -217,7 +219,7 @@ settingAfter d PowerOn q = startByte (d .variant) q
 
 -- ---- the byte read
 
--- the byte of a register in R, with the die revision of variant 1, 2 and 3 at FF
+-- the byte of a register in R: 00 local, 01 and 10 the latest remote reading, 02 status, FE manufacturer, FF die revision, else a setting
 abbrev pub shownAt : Device → ℕ → ℕ → ℕ → ℕ
 shownAt d manufacturer revision r =
     cond (eqb r 0x00) (d .sensed .local)
@@ -228,6 +230,7 @@ shownAt d manufacturer revision r =
     (cond (eqb r 0xFF) revision
     (byteAt d r))))))
 
+-- FE is 01; FF is 31h, 34h and 35h for variant 1, 2 and 3
 abbrev pub registerByte : Device → ℕ → ℕ
 registerByte d = shownAt d 0x01 (cond (eqb (d .variant) 1) 0x31 (cond (eqb (d .variant) 2) 0x34 0x35))
 
