@@ -6,3 +6,4 @@ pub mod Conversions
 pub mod Changes
 pub mod Moves
 pub mod Registers
+pub mod Alike

@@ -1,5 +1,6 @@
--- What moves each part of a device, for every device and event: `pointer-moves`, `pending-moves`, `local-moves`, `remote-moves`,
--- `faults-moves` and `status-moves`; and what is acknowledged and taken: `acknowledged-exactly` and `taken-exactly`.
+-- What moves each part of a device, for every device and event: `pointer-moves`, `pending-moves`, `status-moves`, `local-moves`,
+-- `remote-moves`, `faults-moves`; `sensed-rests` and `sensed-starts` for these three with the live byte and the latches; and what is
+-- acknowledged and taken: `acknowledged-exactly` and `taken-exactly`.
 -- Assumes nothing.
 use mathlib.Core.Path.{_≡_, refl, sym, ap, _∙_}
 use mathlib.Core.Bool.{Bool, true, false, not, cond, _||_, _&&_, and-true, and-false}
@@ -11,7 +12,7 @@ use lib.Dec.{eqb}
 use lib.Bits.{bitAnd, bitOr}
 use borrow.Author.Tests.{eqb-true, ne-eqb}
 use Rattle.laws.proofs.Choices.{cond-ind, by-test, clash}
-use Rattle.temperature.specs.Temperature.{degreesOf, eighthsOf, sumOf}
+use Rattle.temperature.specs.Temperature.{degreesOf, eighthsOf, sumOf, heldOf}
 use Rattle.registers.specs.Page.{R, W, among, readableOf, writableOf, knownOf, addressOf, readAtOf, keptOf, settingOf, changedOf, readPositionOf, readOnlyOf}
 use Rattle.registers.proofs.Entries.{zero-at}
 use Rattle.conversion.specs.declared.Sensed.{Sensed}
@@ -25,7 +26,7 @@ use Rattle.device.specs.Bus.{silentOf, answeredOf, standbyOf, maskedOf, storedO
 use Rattle.device.specs.Bus.{afterReadOf, statusReadOf, valueOf, getOf, pointOf, respondsOf, respondOf, takesOf, convertedOf, senseOf}
 use Rattle.device.specs.Bus.{poweredOf, alertResponse, atOf}
 use Rattle.device_laws.specs.Moves.{byteAt, ownOf, anySet, inStandby, takenOf, namedOf, pointerAfter, pendingAfter, localAfter, remoteAfter, countAfter}
-use Rattle.device_laws.specs.Moves.{sampleOf, faultsAfter, statusAfter, answersAlert, acknowledgedOf, takenBy}
+use Rattle.device_laws.specs.Moves.{restsAt, sampleOf, faultsAfter, statusAfter, answersAlert, acknowledgedOf, takenBy}
 use Rattle.device.specs.Ranges.{rangedOf}
 use Rattle.device.specs.Step.{effectOf}
 use Rattle.device_laws.proofs.Changes.{on-list, setting-other, and-assoc}
@@ -313,7 +314,7 @@ unfolding eighthsOf degreesOf
 powered-remote v = rw (zero-at v 0x01 refl, zero-at v 0x10 refl)
 
 pub remote-moves : (d : Device) (e : Event) → effectOf d e .device .sensed .remote ≡ remoteAfter d e
-unfolding effectOf poweredOf convertedOf sensedOf readingOf sumOf
+unfolding effectOf poweredOf convertedOf sensedOf readingOf sumOf heldOf
 remote-moves d (Write a w v) = ap (λ (s : Sensed). s .remote) (still d (Write a w v) tt)
 remote-moves d (Read a r) = ap (λ (s : Sensed). s .remote) (still d (Read a r) tt)
 remote-moves d (Send a r) = ap (λ (s : Sensed). s .remote) (still d (Send a r) tt)
@@ -351,7 +352,7 @@ unfolding convertedOf sensedOf
 converted-faults d local t broken = count-outside d t
 
 pub faults-moves : (d : Device) (e : Event) → effectOf d e .device .sensed .faults ≡ faultsAfter d e
-unfolding effectOf poweredOf readingOf sumOf
+unfolding effectOf poweredOf readingOf sumOf heldOf
 faults-moves d (Write a w v) = ap (λ (s : Sensed). s .faults) (still d (Write a w v) tt)
 faults-moves d (Read a r) = ap (λ (s : Sensed). s .faults) (still d (Read a r) tt)
 faults-moves d (Send a r) = ap (λ (s : Sensed). s .faults) (still d (Send a r) tt)
@@ -361,6 +362,34 @@ faults-moves d (Convert local high low) =
 faults-moves d (Open local) =
     sense-moves (λ (e : Device). e .sensed .faults) d local (pos 1016) true (countAfter d (pos 1016)) (converted-faults d local (pos 1016) true)
 faults-moves d PowerOn = refl
+
+-- ---- the live byte and the latches, with the readings and the count
+
+sense-rests : (d : Device) (local : ℕ) (remote : ℤ) (broken : Bool) → not (takenOf d) ≡ true → senseOf d local remote broken .device .sensed ≡ d .sensed
+unfolding senseOf takesOf
+sense-rests d local remote broken = split (takesOf d)
+  where
+    split : (t : Bool) → not t ≡ true
+        → cond t (record { device = convertedOf d local remote broken; acknowledged = false; taken = true; byte = 0 }) (silentOf d) .device .sensed ≡ d .sensed
+    split true e = clash e
+    split false e = refl
+
+-- P8: only taken conversions and power-on move them
+pub sensed-rests : (d : Device) (e : Event) → restsAt d e ≡ true → effectOf d e .device .sensed ≡ d .sensed
+unfolding effectOf
+sensed-rests d (Write a w v) h = still d (Write a w v) tt
+sensed-rests d (Read a r) h = still d (Read a r) tt
+sensed-rests d (Send a r) h = still d (Send a r) tt
+sensed-rests d (Receive a) h = still d (Receive a) tt
+sensed-rests d (Convert local high low) h = sense-rests d local _ false h
+sensed-rests d (Open local) h = sense-rests d local _ true h
+sensed-rests d PowerOn h = clash h
+
+-- and power-on leaves both readings 0, no live bit, no fault counted and no latch set
+pub sensed-starts : (d : Device)
+    → effectOf d PowerOn .device .sensed ≡ record { local = 0; remote = pos 0; live = 0; faults = 0; llatch = false; rlatch = false }
+unfolding effectOf poweredOf
+sensed-starts d = rw (powered-remote (d .variant), zero-at (d .variant) 0x00 refl)
 
 -- ---- acknowledged and taken
 

@@ -10,3 +10,4 @@ pub mod PowerOn
 pub mod Alerts
 pub mod Conversions
 pub mod Moves
+pub mod Alike

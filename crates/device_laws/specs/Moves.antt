@@ -1,14 +1,15 @@
 -- Each part of a device after an event, part by part: a second account of `effectOf`, which goes event by event. Registers, bits and
--- addresses stand here as document 01 prints them. `proofs/Moves.antt` says that the two accounts agree for every device and event.
+-- addresses stand here as document 01 prints them. `proofs/Moves.antt` and `proofs/Registers.antt` say that the two accounts agree for every
+-- device and event.
 -- Assumes nothing.
 use Prim.Native.Nat.{ℕ, _+_, _-_, min}
-use mathlib.Core.Bool.{Bool, false, not, _||_, _&&_, cond}
+use mathlib.Core.Bool.{Bool, true, false, not, _||_, _&&_, cond}
 use mathlib.Core.List.{List, [], _∷_}
-use lib.IntN.{ℤ, pos, _+ℤ_, _*ℤ_}
+use lib.IntN.{ℤ, pos, negℤ, _+ℤ_, _*ℤ_}
 use lib.Signed.{ltZ}
 use lib.Dec.{eqb, ltb}
 use lib.Bits.{bitAnd, bitOr}
-use Rattle.temperature.specs.Temperature.{degreesOf, eighthsOf, heldOf, highByteOf, lowByteOf}
+use Rattle.temperature.specs.Temperature.{degreesOf, eighthsOf, highByteOf, lowByteOf}
 use Rattle.registers.specs.Page.{R, W, among, settingOf}
 use Rattle.device.specs.declared.Device.{Device}
 use Rattle.device.specs.declared.Event.{Event}
@@ -70,9 +71,13 @@ pendingAfter d PowerOn = false
 
 -- ---- the readings
 
+-- held to -1024..1023
+abbrev pub heldTo : ℤ → ℤ
+heldTo sum = cond (ltZ (pos 1023) sum) (pos 1023) (cond (ltZ sum (negℤ (pos 1024))) (negℤ (pos 1024)) sum)
+
 -- P2: sample plus offset, held
 abbrev pub sampleOf : Device → ℕ → ℕ → ℤ
-sampleOf d high low = heldOf (eighthsOf high low +ℤ eighthsOf (byteAt d 0x11) (byteAt d 0x12))
+sampleOf d high low = heldTo (eighthsOf high low +ℤ eighthsOf (byteAt d 0x11) (byteAt d 0x12))
 
 abbrev pub localAfter : Device → Event → ℕ
 localAfter d (Write a w v) = d .sensed .local
@@ -92,6 +97,16 @@ remoteAfter d (Receive a) = d .sensed .remote
 remoteAfter d (Convert local high low) = cond (takenOf d) (sampleOf d high low) (d .sensed .remote)
 remoteAfter d (Open local) = cond (takenOf d) (pos 1016) (d .sensed .remote)
 remoteAfter d PowerOn = pos 0
+
+-- neither a taken conversion nor power-on
+abbrev pub restsAt : Device → Event → Bool
+restsAt d (Write a w v) = true
+restsAt d (Read a r) = true
+restsAt d (Send a r) = true
+restsAt d (Receive a) = true
+restsAt d (Convert local high low) = not (takenOf d)
+restsAt d (Open local) = not (takenOf d)
+restsAt d PowerOn = false
 
 -- ---- the fault count
 
@@ -143,6 +158,7 @@ acknowledgedOf d (Convert local high low) = false
 acknowledgedOf d (Open local) = false
 acknowledgedOf d PowerOn = false
 
+-- P11: conversions alone are taken, and never acknowledged
 abbrev pub takenBy : Device → Event → Bool
 takenBy d (Write a w v) = false
 takenBy d (Read a r) = false
@@ -203,7 +219,7 @@ settingAfter d PowerOn q = startByte (d .variant) q
 
 -- ---- the byte read
 
--- the byte of a register in R, with the die revision of variant 1, 2 and 3 at FF
+-- the byte of a register in R: 00 local, 01 and 10 the latest remote reading, 02 status, FE manufacturer, FF die revision, else a setting
 abbrev pub shownAt : Device → ℕ → ℕ → ℕ → ℕ
 shownAt d manufacturer revision r =
     cond (eqb r 0x00) (d .sensed .local)
@@ -214,6 +230,7 @@ shownAt d manufacturer revision r =
     (cond (eqb r 0xFF) revision
     (byteAt d r))))))
 
+-- FE is 01; FF is 31h, 34h and 35h for variant 1, 2 and 3
 abbrev pub registerByte : Device → ℕ → ℕ
 registerByte d = shownAt d 0x01 (cond (eqb (d .variant) 1) 0x31 (cond (eqb (d .variant) 2) 0x34 0x35))
 
