@@ -3,7 +3,7 @@
 -- `status-read`: a read of 02. `first-byte`: the first answer byte.
 -- Assumes nothing.
 use mathlib.Core.Path.{_≡_, refl, ap, sym, _∙_}
-use mathlib.Core.Bool.{Bool, true, false, not, _||_, _&&_}
+use mathlib.Core.Bool.{Bool, true, false, not, _||_, _&&_, and-true, and-false, or-false}
 use mathlib.Core.List.{List, [], _∷_}
 use Prim.Native.Nat.{ℕ, suc, _%_, _^_, _<_}
 use native.Mathlib.Nat.{mod-eq-of-lt}
@@ -18,7 +18,7 @@ use Rattle.laws.proofs.Tables.{agree}
 use Rattle.registers.specs.Bits.{has, alerting}
 use Rattle.registers.specs.Page.{find, onPosition, readableOf, settableOf, readPositionOf, settingOf, changedOf, addressOf}
 use Rattle.conversion.specs.Conversion.{bitOf}
-use Rattle.conversion.proofs.Bits.{has-or, bit-of, and-false, and-true, or-false}
+use Rattle.conversion.proofs.Bits.{has-or, bit-of}
 use Rattle.device.specs.declared.Device.{Device}
 use Rattle.device.specs.declared.Outcome.{Outcome}
 use Rattle.device.specs.declared.Event.the-variants.{Read, Receive}
