@@ -2,7 +2,7 @@
 -- depend on. `channels-alike`: both channels alike up to the fault queue and OPEN.
 -- Assumes nothing.
 use mathlib.Core.Path.{_≡_, refl, ap, sym, _∙_}
-use mathlib.Core.Bool.{Bool, false, not, _||_, _&&_, cond}
+use mathlib.Core.Bool.{Bool, false, not, _||_, _&&_, cond, and-true, and-false, or-false}
 use mathlib.Core.List.{List}
 use Prim.Native.Nat.{ℕ, _+_, min}
 use lib.IntN.{ℤ}
@@ -17,7 +17,7 @@ use Rattle.conversion.specs.Conversion.{localLimitsOf, remoteLimitsOf, o
 use Rattle.conversion.specs.Conversion.{localOutOf, remoteOutOf, remoteShownOf, faultsOf, localOf}
 use Rattle.conversion.specs.AfterConversion.{SameLimits, SameChannels, Alike, aboveRemoteHigh}
 use Rattle.conversion.specs.AfterConversion.{belowRemoteLow, aboveRemoteCrit, outsideAny, heldBack, latched, AfterConversion}
-use Rattle.conversion.proofs.Bits.{has-or, bit-of, and-false, and-true, or-false}
+use Rattle.conversion.proofs.Bits.{has-or, bit-of}
 
 -- ---- the live byte, bit by bit
 

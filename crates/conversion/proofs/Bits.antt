@@ -59,16 +59,3 @@ has-or x y mask = ap (λ (n : ℕ). not (eqb n 0)) (and-or x y mask) ∙ set-or 
 pub bit-of : (on : Bool) (bit mask : ℕ) → has (bitOf on bit) mask ≡ (on && has bit mask)
 bit-of true bit mask = refl
 bit-of false bit mask = refl
-
--- a bit that another mask asks for is not seen
-pub and-false : (on : Bool) → (on && false) ≡ false
-and-false true = refl
-and-false false = refl
-
-pub and-true : (on : Bool) → (on && true) ≡ on
-and-true true = refl
-and-true false = refl
-
-pub or-false : (on : Bool) → (on || false) ≡ on
-or-false true = refl
-or-false false = refl

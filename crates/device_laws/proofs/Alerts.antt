@@ -3,7 +3,7 @@
 -- `status-read`: a read of 02. `first-byte`: the first answer byte.
 -- Assumes nothing.
 use mathlib.Core.Path.{_≡_, refl, ap, sym, _∙_}
-use mathlib.Core.Bool.{Bool, true, false, not, _||_, _&&_}
+use mathlib.Core.Bool.{Bool, true, false, not, _||_, _&&_, and-true, and-false, or-false}
 use mathlib.Core.List.{List, [], _∷_}
 use Prim.Native.Nat.{ℕ, suc, _%_, _^_, _<_}
 use native.Mathlib.Nat.{mod-eq-of-lt}
@@ -18,13 +18,17 @@ use Rattle.laws.proofs.Tables.{agree}
 use Rattle.registers.specs.Bits.{has, alerting}
 use Rattle.registers.specs.Page.{find, onPosition, readableOf, settableOf, readPositionOf, settingOf, changedOf, addressOf}
 use Rattle.conversion.specs.Conversion.{bitOf}
-use Rattle.conversion.proofs.Bits.{has-or, bit-of, and-false, and-true, or-false}
+use Rattle.conversion.proofs.Bits.{has-or, bit-of}
 use Rattle.device.specs.declared.Device.{Device}
 use Rattle.device.specs.declared.Outcome.{Outcome}
+use Rattle.device.specs.declared.Event.{Event}
 use Rattle.device.specs.declared.Event.the-variants.{Read, Receive}
 use Rattle.device.specs.Pins.{comparatorOf, watchedOf, alertOf, tcritOf, pinsOf, firstOf}
 use Rattle.device.specs.Bus.{maskedOf, statusReadOf, readOnlyValueOf, valueOf, getOf, respondsOf, respondOf}
-use Rattle.device.specs.Step.{effectOf, answerOf}
+use Rattle.device.specs.Step.{effectOf, answerOf, stepOf}
+use Rattle.device.specs.Ranges.{operandsOf}
+use Rattle.device_laws.specs.Codes.{Ready}
+use Rattle.device.proofs.Steps.{step-effect}
 use Rattle.device_laws.specs.Alerts.{anyOfSix, Responds, StatusRead, FirstByte}
 
 -- ---- ALERT
@@ -218,9 +222,9 @@ module _ (alert tcrit acknowledged taken : Bool) where
       bit-below true bit h = h
       bit-below false bit h = lit< tt
 
-pub first-byte : (o : Outcome) → FirstByte o (answerOf o)
+answer-bits : (o : Outcome) → FirstByte (o .device) (o .acknowledged) (o .taken) (answerOf o)
 unfolding answerOf pinsOf
-first-byte o =
+answer-bits o =
     let a = alertOf (o .device) in
     let c = tcritOf (o .device) in
     let bits = four a c (o .acknowledged) (o .taken) in
@@ -231,3 +235,7 @@ first-byte o =
       D3 = bits 0x08 ∙ simp (and-false, and-true);
       rest = within-four a c (o .acknowledged) (o .taken);
     }
+
+pub first-byte : (d : Device) (e : Event) → Ready d → operandsOf e ≡ true
+    → FirstByte (stepOf d e .device) (effectOf d e .acknowledged) (effectOf d e .taken) (stepOf d e .first)
+first-byte d e ready operands = rw (step-effect d e (ready .variant) (ready .ranges) operands) (answer-bits (effectOf d e))

@@ -43,10 +43,10 @@ pub record StatusRead (d : Device) (o : Outcome) : Type 0 where
       ≡ cond (not (has (settingOf (d .settings) 0xBF) 0x01) && anyOfSix (d .status)) (bitOr (settingOf (d .settings) 0x03) 0x80) (settingOf (d .settings) 0x03)
   pub others : (r : ℕ) → (r ≡ 0x03 → ⊥) → settingOf (o .device .settings) r ≡ settingOf (d .settings) r
 
--- the first answer byte: the pins as they stand after the event, acknowledged, conversion taken
-pub record FirstByte (o : Outcome) (byte : ℕ) : Type 0 where
-  pub D0 : has byte 0x01 ≡ alertOf (o .device)
-  pub D1 : has byte 0x02 ≡ tcritOf (o .device)
-  pub D2 : has byte 0x04 ≡ o .acknowledged
-  pub D3 : has byte 0x08 ≡ o .taken
+-- the first answer byte: the pins of the device as it stands after the event, acknowledged, conversion taken, the rest 0
+pub record FirstByte (after : Device) (acknowledged taken : Bool) (byte : ℕ) : Type 0 where
+  pub D0 : has byte 0x01 ≡ alertOf after
+  pub D1 : has byte 0x02 ≡ tcritOf after
+  pub D2 : has byte 0x04 ≡ acknowledged
+  pub D3 : has byte 0x08 ≡ taken
   pub rest : byte < 0x10
