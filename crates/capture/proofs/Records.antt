@@ -17,8 +17,7 @@ use Rattle.record.specs.declared.Refusal.{Refusal}
 use Rattle.record.specs.declared.Refusal.the-variants.{Kind, Operand}
 use Rattle.record.specs.Record.{decodeOf, codeOf}
 use Rattle.capture.specs.declared.Reader.{Reader}
-use Rattle.capture.specs.declared.Answered.{Answered}
-use Rattle.capture.specs.Sensor.{Sensor, headerLength, sensorEffect}
+use Rattle.capture.specs.Sensor.{Sensor, Answered, headerLength, sensorEffect}
 use Rattle.capture.specs.Reader.{withCarried, holdOf, betweenOf, headerLengthOf, headerDone, rangesOf}
 use Rattle.capture.specs.Reader.{quietOf, answeredOf, judgedOf, turnOf, feedOf, Out, joinOf, reportOf, Meets}
 use Rattle.capture.specs.Loops.{Going, Onward, waitsOf, carryingOf, Took}

@@ -12,8 +12,7 @@ use Rattle.record.specs.declared.Record.the-variants.{Valid, Refused}
 use Rattle.record.specs.Record.{decodeOf, codeOf}
 use Rattle.capture.specs.declared.Reader.{Reader}
 use Rattle.capture.specs.declared.Fed.{Fed}
-use Rattle.capture.specs.declared.Answered.{Answered}
-use Rattle.capture.specs.Sensor.{Sensor, zeroSensor, countPlace, headerLength, sensorRanges, sensorPowered, sensorEffect}
+use Rattle.capture.specs.Sensor.{Sensor, Answered, zeroSensor, countPlace, headerLength, sensorRanges, sensorPowered, sensorEffect}
 
 -- ---- the state
 

@@ -5,10 +5,10 @@ use mathlib.Core.Bool.{Bool, _||_, _&&_}
 use lib.Dec.{ltb}
 use Rattle.device.specs.declared.Device.{Device}
 use Rattle.device.specs.declared.Event.{Event}
+use Rattle.device.specs.declared.Outcome.{Outcome}
 use Rattle.device.specs.Bus.{poweredOf, zeroDevice}
 use Rattle.device.specs.Ranges.{variantOf, rangedOf}
 use Rattle.device.specs.Step.{effectOf, answerOf}
-use Rattle.capture.specs.declared.Answered.{Answered}
 
 abbrev pub Sensor : Type 0
 Sensor = Device
@@ -42,6 +42,13 @@ abbrev pub sensorPowered : ℕ → Sensor
 sensorPowered variant = poweredOf variant
 
 -- an event's two answer bytes, and the device after it
+pub record Answered : Type 0 where
+  pub first : ℕ
+  pub second : ℕ
+  pub sensor : Sensor
+
+abbrev pub answerBytes : Outcome → Answered
+answerBytes o = record { first = answerOf o; second = o .byte; sensor = o .device }
+
 abbrev pub sensorEffect : Sensor → Event → Answered
-sensorEffect sensor e =
-    record { first = answerOf (effectOf sensor e); second = effectOf sensor e .byte; sensor = effectOf sensor e .device }
+sensorEffect sensor e = answerBytes (effectOf sensor e)

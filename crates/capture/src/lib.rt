@@ -20,13 +20,6 @@ pub struct Reader {
     pub device: Device,
 }
 
-// An event's two answer bytes, and the device after it.
-pub struct Answered {
-    pub first: u8,
-    pub second: u8,
-    pub sensor: Device,
-}
-
 // The state before a byte of the input.
 pub struct Ahead {
     pub reader: Reader,

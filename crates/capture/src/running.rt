@@ -91,8 +91,8 @@ pub(crate) fn run(s: Reader, input: &[u8], from: usize, answers: &mut [u8], star
             return refused(n, record::code(r), at, written);
         };
         let o = sensor::effect(device, e);
-        put_pair(&mut answers[written..], o.first, o.second);
-        device = o.sensor;
+        put_pair(&mut answers[written..], sensor::first(o), o.byte);
+        device = o.device;
         done = done + 1;
         written = written + 2;
         at = at + 1;

@@ -1,10 +1,10 @@
 // What the reader knows of its device.
 ghost use mathlib.Core.Path.{_≡_};
 ghost use Rattle.device.specs.Ranges.{variantOf};
-ghost use Rattle.capture.specs.Sensor.{zeroSensor, countPlace, headerLength, sensorRanges, sensorPowered, sensorEffect};
-use super::Answered;
+ghost use Rattle.capture.specs.Sensor.{zeroSensor, countPlace, headerLength, sensorRanges, sensorPowered, answerBytes, sensorEffect};
 use device::Device;
 use device::Event;
+use device::Outcome;
 
 // All zeros.
 pub(crate) fn zero() -> Device
@@ -44,15 +44,15 @@ pub(crate) fn powered(variant: u8) -> Device
     device::bus::powered(variant)
 }
 
-pub(crate) fn effect(sensor: Device, e: Event) -> Answered
-    ensures { λ r. ⌜ r ≡ sensorEffect sensor e ⌝ }
+pub(crate) fn effect(sensor: Device, e: Event) -> Outcome
+    ensures { λ r. ⌜ answerBytes r ≡ sensorEffect sensor e ⌝ }
 {
-    let o = device::effect(sensor, e);
-    let first = device::answer(o);
-    let after = o.device;
-    Answered {
-        first,
-        second: o.byte,
-        sensor: after,
-    }
+    device::effect(sensor, e)
+}
+
+// The first answer byte; the second stands in the outcome.
+pub(crate) fn first(o: Outcome) -> u8
+    ensures { λ r. ⌜ r ≡ answerBytes o .first ⌝ }
+{
+    device::answer(o)
 }

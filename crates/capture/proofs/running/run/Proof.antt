@@ -21,31 +21,32 @@ abbrev μ-loop : tie.MeasureT-loop
 -- the answers with a record's pair stored
 abbrev after : tie.After-put-pair Inv-loop μ-loop → List ℕ
 after p =
-    let l = p .before .before .before .before .before .before .before .before .loop in
+    let l = p .before .before .before .before .before .before .before .before .before .loop in
     putMid (l .written) (length (l .answers) - l .written) (l .answers) (p .put-pair .last .0)
 
 stored : (p : tie.After-put-pair Inv-loop μ-loop)
-    → let l = p .before .before .before .before .before .before .before .before .loop in
-    let a = p .before .before .before .before .before .before .before .before .before .before .before .before .before .args in
+    → let l = p .before .before .before .before .before .before .before .before .before .loop in
+    let a = p .before .before .before .before .before .before .before .before .before .before .before .before .before .before .args in
     Stepped (a .s) (a .input .now) (a .answers .now) (a .from) (a .start) (l .answers) (after p)
-    (p .before .before .effect .result .sensor) (l .done) (l .at) (l .written)
+    (p .before .before .before .effect .result .device) (l .done) (l .at) (l .written)
 stored p =
-    let r = p .before .before .before .before in
+    let r = p .before .before .before .before .before in
     let known = r .before .before .before in
     let l = known .before .loop in
     let valid = sym (r .before .before .decode .ensures) ∙ r .r .given .1 in
-    run-effect (l .inv) (λ i. known .shared-slice-known2 .given i .fits) _ valid (p .before .before .effect .ensures)
-    (laid (l .answers) (p .put-pair .last .0) (_ ∷ _ ∷ []) _ (p .put-pair .ensures))
+    let pair = laid (l .answers) (p .put-pair .last .0) (_ ∷ _ ∷ []) _ (p .put-pair .ensures) in
+    run-effect (l .inv) (λ i. known .shared-slice-known2 .given i .fits) _ valid (p .before .before .before .effect .ensures)
+    (rw (p .before .first .ensures) at pair)
 
 -- behind the loop's test
 more : (c : tie.Else1 Inv-loop μ-loop)
     → let p = c .before .before .before .before .before in
-    let l = p .before .before .before .before .before .before .before .before .loop in
-    let a = p .before .before .before .before .before .before .before .before .before .before .before .before .before .args in
+    let l = p .before .before .before .before .before .before .before .before .before .loop in
+    let a = p .before .before .before .before .before .before .before .before .before .before .before .before .before .before .args in
     Next (a .s .count) (l .done) (length (a .input .now)) (l .at) (length (after p)) (l .written)
 more c =
     let p = c .before .before .before .before .before in
-    goes-on (p .before .before .before .before .before .before .before .before .loop .inv .input-fits) (c .if1 .left)
+    goes-on (p .before .before .before .before .before .before .before .before .before .loop .inv .input-fits) (c .if1 .left)
 
 array-read-kind : tie.Need-array-read-kind Inv-loop μ-loop
 array-read-kind c = search needs
@@ -108,6 +109,9 @@ part-put-pair-start c = search needs
 part-put-pair-end : tie.Need-part-put-pair-end Inv-loop μ-loop
 part-put-pair-end c = search needs
 
+first-requires : tie.Need-first-requires Inv-loop μ-loop
+first-requires c κs = search needs
+
 put-pair-requires : tie.Need-put-pair-requires Inv-loop μ-loop
 put-pair-requires c κs = search needs
 
@@ -135,7 +139,7 @@ report-requires c κs = search needs
 same-length-2 : tie.Need-same-length-2 Inv-loop μ-loop
 same-length-2 c =
     let p = c .before .before .before .before .before .before .before in
-    stored p .long ∙ p .before .before .before .before .before .before .before .before .loop .inv .long
+    stored p .long ∙ p .before .before .before .before .before .before .before .before .before .loop .inv .long
 
 returns-2 : tie.Need-returns-2 Inv-loop μ-loop
 returns-2 c = rw (c .report .ensures, c .before .between .ensures) (stored (c .before .before .before .before .before .before .before) .left)
@@ -187,6 +191,7 @@ run-spec =
     sub-put-pair
     part-put-pair-start
     part-put-pair-end
+    first-requires
     put-pair-requires
     add-done
     add-written

@@ -6,11 +6,8 @@ use Rattle.capture.proofs.sensor.effect.Tie as tie
 effect-requires : tie.Need-effect-requires
 effect-requires c κs = search needs
 
-answer-requires : tie.Need-answer-requires
-answer-requires c κs = search needs
-
 returns : tie.Need-returns
-returns c = rw (c .before .answer .ensures, c .before .before .effect .ensures)
+returns c = rw (c .effect .ensures)
 
 pub effect-spec : {M : Type 1} → statement M
-effect-spec = tie.close (tie.spec effect-requires answer-requires returns)
+effect-spec = tie.close (tie.spec effect-requires returns)
