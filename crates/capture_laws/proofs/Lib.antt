@@ -6,6 +6,7 @@ pub mod Cuts
 pub mod Ends
 pub mod Rooms
 pub mod Counts
+pub mod Fours
 pub mod Stepping
 pub mod Written
 pub mod Judging

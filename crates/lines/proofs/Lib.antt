@@ -2,6 +2,5 @@ pub mod Decimals
 pub mod Layers
 pub mod Blocks
 pub mod Numbered
-pub mod Fours
 pub mod Turns
 pub mod Endings

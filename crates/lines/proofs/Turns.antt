@@ -23,7 +23,7 @@ use Rattle.lines.specs.Lines.{linesOf, endLineOf, captureListingOf}
 use Rattle.lines.specs.Turns.{Turn, Turns, Output}
 use Rattle.lines.specs.Turns.Turns.{at-end, refused, goes-on}
 use Rattle.lines.proofs.Numbered.{laid-front, lined-front, end-short, not-round, lines-all, lines-append}
-use Rattle.lines.proofs.Fours.{run-even, run-code, answers-fit, done-fits}
+use Rattle.capture_laws.proofs.Fours.{run-even, run-code, answers-fit, done-fits}
 
 -- ---- one turn
 

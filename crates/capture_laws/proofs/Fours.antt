@@ -14,12 +14,13 @@ use Rattle.record.specs.declared.Record.{Record}
 use Rattle.record.specs.declared.Record.the-variants.{Valid, Refused}
 use Rattle.record.specs.Record.{decodeOf}
 use Rattle.capture.specs.declared.Reader.{Reader}
-use Rattle.capture.specs.Reader.{Turn, headOf, judgedOf, recordOf, turnOf, pairOf, rangesOf}
+use Rattle.capture.specs.Sensor.{countPlace}
+use Rattle.capture.specs.Reader.{Turn, inHeader, headOf, judgedOf, recordOf, turnOf, pairOf, rangesOf}
 use Rattle.capture_laws.specs.Schedule.{Bytes}
-use Rattle.capture.proofs.InRange.{ranges, below-limit, limit-all}
+use Rattle.capture.proofs.InRange.{ranges, count-fits}
 use Rattle.capture_laws.proofs.Rooms.{feed-fits}
 use Rattle.capture_laws.proofs.Counts.{feed-even}
 use Rattle.capture_laws.proofs.Run.{runOf, run-nil, run-on, run-stop, run-ranges}
 
 -- ---- one byte
 
@@ -35,7 +36,7 @@ head-same : (s : Reader) (b : ℕ) → headOf s b .carried ≡ s .carried
 unfolding headOf
 head-same s b =
     cond-ind Same (eqb (s .head) 0) (λ _. cond-ind Same (eqb b 1) (λ _. refl) (λ _. refl))
-    (λ _. cond-ind Same (eqb (s .head) 1) (λ _. cond-ind Same (variantOf b) (λ _. refl) (λ _. refl)) (λ _. refl))
+    (λ _. cond-ind Same (ltb (s .head) (countPlace (s .device))) (λ _. cond-ind Same (variantOf b) (λ _. refl) (λ _. refl)) (λ _. refl))
   where
     Same : Reader → Type 0
     Same t = t .carried ≡ s .carried
@@ -44,7 +45,7 @@ turn-four : (s : Reader) (b : ℕ) → Four s (turnOf s b)
 unfolding turnOf recordOf
 turn-four s b =
     cond-ind (Four s) (eqb (s .held) 0)
-    (λ _. cond-ind (Four s) (ltb (s .head) 6) (λ _. omega (arith, head-same s b))
+    (λ _. cond-ind (Four s) (inHeader s) (λ _. omega (arith, head-same s b))
     (λ _. cond-ind (Four s) (ltb (s .done) (s .count))
     (λ _. cond-ind (Four s) (ltb (s .carried) 3) (λ _. omega arith)
     (λ e. judged-four s (decodeOf (getD (s .bytes) 0 0) (getD (s .bytes) 1 0) (getD (s .bytes) 2 0) b) (ltb-false (s .carried) 3 e)))
@@ -83,7 +84,7 @@ module _ (s : Reader) (xs : List ℕ) (h : rangesOf s ≡ true) where
   -- 65,536 bytes and three carried ones hold at most 16,384 records
   pub answers-fit : length xs ≤ 65536 → length (runOf s xs .answers) ≤ 32768
   answers-fit k =
-      let c = leb-true (s .carried) 3 (ranges s h .place .1 .0) in
+      let c = leb-true (s .carried) 3 (ranges s h .place .few) in
       omega (arith, run-four s xs, run-even s xs)
 
   -- a record's number is at most the count, of 32 bits
@@ -91,5 +92,5 @@ module _ (s : Reader) (xs : List ℕ) (h : rangesOf s ≡ true) where
   done-fits k =
       let t = runOf s xs .reader in
       let r = run-ranges s xs k h in
-      let d = leb-true (t .done) (t .count) (ranges t r .place .1 .1 .1 .1 .1 .1 .1 .0) in
-      omega (arith, run-even s xs, below-limit t r, limit-all (t .head))
+      let d = leb-true (t .done) (t .count) (ranges t r .place .done) in
+      omega (arith, run-even s xs, count-fits t r)
