@@ -1,3 +1,1 @@
 pub mod Bounds
-pub mod Bits
-pub mod AfterConversion

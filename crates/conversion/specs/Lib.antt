@@ -1,3 +1,2 @@
 pub mod Conversion
 pub mod Opened
-pub mod AfterConversion

@@ -18,7 +18,7 @@ use Rattle.laws.proofs.Tables.{agree}
 use Rattle.registers.specs.Bits.{has, alerting}
 use Rattle.registers.specs.Page.{find, onPosition, readableOf, settableOf, readPositionOf, settingOf, changedOf, addressOf}
 use Rattle.conversion.specs.Conversion.{bitOf}
-use Rattle.conversion.proofs.Bits.{has-or, bit-of}
+use Rattle.device_laws.proofs.Bits.{has-or, bit-of}
 use Rattle.device.specs.declared.Device.{Device}
 use Rattle.device.specs.declared.Outcome.{Outcome}
 use Rattle.device.specs.declared.Event.{Event}

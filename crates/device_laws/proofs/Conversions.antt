@@ -13,9 +13,9 @@ use Rattle.temperature.specs.Temperature.{sumOf, heldOf}
 use Rattle.registers.specs.Bits.{has}
 use Rattle.registers.specs.Page.{settingOf}
 use Rattle.conversion.specs.Conversion.{readingOf, sensedOf}
-use Rattle.conversion.specs.AfterConversion.{SameLimits}
-use Rattle.conversion.proofs.AfterConversion.{after-conversion, same-live}
-use Rattle.conversion.proofs.Bits.{has-or}
+use Rattle.device_laws.specs.AfterConversion.{SameLimits}
+use Rattle.device_laws.proofs.AfterConversion.{after-conversion, same-live}
+use Rattle.device_laws.proofs.Bits.{has-or}
 use Rattle.device.specs.declared.Device.{Device}
 use Rattle.device.specs.declared.Event.{Event}
 use Rattle.device.specs.declared.Event.the-variants.{Write, Read, Send, Receive, Convert, Open, PowerOn}

@@ -7,3 +7,5 @@ pub mod Changes
 pub mod Moves
 pub mod Registers
 pub mod Alike
+pub mod Bits
+pub mod AfterConversion

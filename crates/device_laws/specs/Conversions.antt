@@ -9,7 +9,7 @@ use lib.Signed.{ltZ}
 use Rattle.temperature.specs.Temperature.{eighthsOf}
 use Rattle.registers.specs.Bits.{has}
 use Rattle.registers.specs.Page.{settingOf}
-use Rattle.conversion.specs.AfterConversion.{AfterConversion, outsideAny}
+use Rattle.device_laws.specs.AfterConversion.{AfterConversion, outsideAny}
 use Rattle.device.specs.declared.Device.{Device}
 use Rattle.device.specs.declared.Outcome.{Outcome}
 use Rattle.device.specs.declared.Event.{Event}

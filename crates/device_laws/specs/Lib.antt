@@ -11,3 +11,4 @@ pub mod Alerts
 pub mod Conversions
 pub mod Moves
 pub mod Alike
+pub mod AfterConversion

@@ -1,6 +1,3 @@
 pub mod Decimals
 pub mod Layers
 pub mod Blocks
-pub mod Numbered
-pub mod Turns
-pub mod Endings

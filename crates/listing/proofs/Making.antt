@@ -8,7 +8,7 @@ use Rattle.capture.specs.declared.Reader.{Reader}
 use Rattle.capture.specs.declared.Fed.{Fed}
 use Rattle.capture.specs.Reader.{FedWith}
 use Rattle.lines.specs.Lines.{nextOf, Listed}
-use Rattle.lines.specs.Turns.{readMost, answerRoom, textRoom, Turn}
+use Rattle.lines_laws.specs.Turns.{readMost, answerRoom, textRoom, Turn}
 
 pub made : (s : Reader) (part : List ℕ) {r : Fed} {lent answers blank page : List ℕ} {size first : ℕ} → FedWith s part r lent answers
     → first ≡ nextOf (s .done) → Listed first (take (r .written) answers) size blank page

@@ -6,7 +6,7 @@ use mathlib.Core.List.{List}
 use Prim.Native.Nat.{ℕ}
 use Rattle.capture.specs.declared.Reader.{Reader}
 use Rattle.capture.specs.declared.Fed.{Fed}
-use Rattle.lines.specs.Turns.{Turn}
+use Rattle.lines_laws.specs.Turns.{Turn}
 use Rattle.listing.specs.declared.Went.{Went}
 
 -- a turn of the listing, of the part that was read; another follows only after code 0

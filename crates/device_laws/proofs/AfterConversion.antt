@@ -11,13 +11,13 @@ use Rattle.temperature.specs.Temperature.{degreesOf, eighthsOf, clearedOf}
 use Rattle.temperature.proofs.Whole.{whole, in-degrees}
 use Rattle.registers.specs.Bits.{has}
 use Rattle.registers.specs.Page.{settingOf}
 use Rattle.conversion.specs.declared.Sensed.{Sensed}
 use Rattle.conversion.specs.declared.Out.{Out}
 use Rattle.conversion.specs.Conversion.{localLimitsOf, remoteLimitsOf, outOf, anyOf, countOf, queuedOf, shownOf, liveOf, latchOf, sensedOf}
 use Rattle.conversion.specs.Conversion.{localOutOf, remoteOutOf, remoteShownOf, faultsOf, localOf}
-use Rattle.conversion.specs.AfterConversion.{SameLimits, SameChannels, Alike, aboveRemoteHigh}
-use Rattle.conversion.specs.AfterConversion.{belowRemoteLow, aboveRemoteCrit, outsideAny, heldBack, latched, AfterConversion}
-use Rattle.conversion.proofs.Bits.{has-or, bit-of}
+use Rattle.device_laws.specs.AfterConversion.{SameLimits, SameChannels, Alike, aboveRemoteHigh}
+use Rattle.device_laws.specs.AfterConversion.{belowRemoteLow, aboveRemoteCrit, outsideAny, heldBack, latched, AfterConversion}
+use Rattle.device_laws.proofs.Bits.{has-or, bit-of}
 
 -- ---- the live byte, bit by bit
 

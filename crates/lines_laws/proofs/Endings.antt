@@ -12,9 +12,9 @@ use Rattle.capture.specs.declared.Reader.{Reader}
 use Rattle.capture.specs.declared.Fed.{Fed}
 use Rattle.capture.specs.Reader.{freshOf, callOf, finishOf, filledOf, reportOf}
 use Rattle.capture_laws.specs.Schedule.{joined}
 use Rattle.lines.specs.Lines.{endLineOf, nextOf, fittingOf, fittingLinesOf}
-use Rattle.lines.specs.Turns.{readMost, answerRoom, textRoom, endRoom, Turn, Turns, Read, Ends}
-use Rattle.lines.specs.Turns.Turns.{at-end, refused, goes-on}
+use Rattle.lines_laws.specs.Turns.{readMost, answerRoom, textRoom, endRoom, Turn, Turns, Read, Ends}
+use Rattle.lines_laws.specs.Turns.Turns.{at-end, refused, goes-on}
 
 -- turns that end: the parts that they read, and what is unread, are the input
 record Ended (s : Reader) (input : List ℕ) : Type 0 where

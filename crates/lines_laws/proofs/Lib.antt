@@ -1,0 +1,3 @@
+pub mod Numbered
+pub mod Turns
+pub mod Endings
