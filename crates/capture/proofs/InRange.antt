@@ -19,7 +19,7 @@ use Rattle.record.specs.Record.{decodeOf, codeOf}
 use Rattle.capture.specs.declared.Reader.{Reader}
 use Rattle.capture.specs.Sensor.{Sensor, countPlace, headerLength, sensorRanges, sensorPowered, sensorEffect}
 use Rattle.capture.specs.Reader.{withCount, withDevice, holdOf, betweenOf, headerLengthOf, inHeader, headerDone, countTaken, limitOf}
-use Rattle.capture.specs.Reader.{placeTests, placeOf, rangesOf, Turn, openedOf, variantTakenOf, countedOf, carryOf, judgedOf, headOf, recordOf, turnOf}
+use Rattle.capture.specs.Reader.{placeTests, placeOf, rangesOf, Turn, headTakenOf, openedOf, variantTakenOf, countedOf, carryOf, judgedOf, headOf, recordOf, turnOf}
 use Rattle.capture.proofs.Limits.{limit-small, limit-all, limit-next}
 use Rattle.capture.proofs.Sensors.{powered-devices, effect-devices, early-ranges, powered-ranges, later-ranges, effect-ranges}
 
@@ -136,9 +136,9 @@ module _ (s : Reader) (b : ℕ) (small : b < 256) (h : rangesOf s ≡ true) wher
 
   -- one more header byte, with this count and this device
   header-ranges : (count : ℕ) (d : Sensor) → s .head < headerLengthOf s → s .head < headerLength d → count < limitOf (s .head + 1 - countPlace d)
-      → sensorRanges (s .head + 1) d ≡ true → rangesOf (withDevice (withCount (openedOf s) count) d) ≡ true
+      → sensorRanges (s .head + 1) d ≡ true → rangesOf (withDevice (withCount (headTakenOf s) count) d) ≡ true
   header-ranges count d l m c k =
-      of-ranges (withDevice (withCount (openedOf s) count) d)
+      of-ranges (withDevice (withCount (headTakenOf s) count) d)
       (record {
         place = record {
           head = le-leb (s .head + 1) (headerLength d) (omega arith);

@@ -119,15 +119,19 @@ pub record Turn : Type 0 where
 abbrev pub quietOf : Reader → Turn
 quietOf s = record { reader = s; pair = false; first = 0; second = 0 }
 
--- one more header byte: the device count; a variant; one byte of the record count, highest first
+-- one more header byte
+abbrev pub headTakenOf : Reader → Reader
+headTakenOf s = withHead s (s .head + 1)
+
+-- it is the device count; a variant; one byte of the record count, highest first
 abbrev pub openedOf : Reader → Reader
-openedOf s = withHead s (s .head + 1)
+openedOf s = headTakenOf s
 
 abbrev pub variantTakenOf : Reader → ℕ → Reader
-variantTakenOf s variant = withDevice (openedOf s) (sensorPowered variant)
+variantTakenOf s variant = withDevice (headTakenOf s) (sensorPowered variant)
 
 abbrev pub countedOf : Reader → ℕ → Reader
-countedOf s b = withCount (openedOf s) (s .count * 256 + b)
+countedOf s b = withCount (headTakenOf s) (s .count * 256 + b)
 
 -- header bytes are judged as they come: 1 unless the device count is 1, 2 unless the variant is 1, 2 or 3
 unfoldable pub headOf : Reader → ℕ → Reader

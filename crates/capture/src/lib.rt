@@ -38,7 +38,7 @@ pub struct Fed {
 pub fn fresh() -> Reader
     ensures { λ r. ⌜ r ≡ freshOf ⌝ }
 {
-    let device = sensor::zero();
+    let device = sensor::powered(0);
     Reader {
         head: 0,
         count: 0,

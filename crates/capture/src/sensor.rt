@@ -1,17 +1,9 @@
 // What the reader knows of its device.
 ghost use mathlib.Core.Path.{_≡_};
-ghost use Rattle.device.specs.Ranges.{variantOf};
-ghost use Rattle.capture.specs.Sensor.{zeroSensor, countPlace, headerLength, sensorRanges, sensorPowered, answerBytes, sensorEffect};
+ghost use Rattle.capture.specs.Sensor.{countPlace, headerLength, sensorRanges, sensorPowered, answerBytes, sensorEffect};
 use device::Device;
 use device::Event;
 use device::Outcome;
-
-// All zeros.
-pub(crate) fn zero() -> Device
-    ensures { λ r. ⌜ r ≡ zeroSensor ⌝ }
-{
-    device::bus::powered(0)
-}
 
 // The header's bytes before the record count: the device count, which is 1, and a variant.
 pub(crate) fn count_place(sensor: Device) -> u8
@@ -32,12 +24,7 @@ pub(crate) fn ranges(head: u8, sensor: Device) -> bool
     ((head < 2) | device::ranges::variant(sensor.variant)) & device::ranges::ranged(sensor)
 }
 
-pub(crate) fn variant(v: u8) -> bool
-    ensures { λ r. ⌜ r ≡ variantOf v ⌝ }
-{
-    device::ranges::variant(v)
-}
-
+// As after power-on; with variant 0, all zeros.
 pub(crate) fn powered(variant: u8) -> Device
     ensures { λ r. ⌜ r ≡ sensorPowered variant ⌝ }
 {

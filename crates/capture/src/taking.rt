@@ -39,7 +39,7 @@ fn head_byte(s: Reader, b: u8) -> Reader
         return hold(s, 1);
     }
     if s.head < sensor::count_place(s.device) {
-        if sensor::variant(b) {
+        if device::ranges::variant(b) {
             next.device = sensor::powered(b);
             return next;
         }

@@ -19,11 +19,11 @@ cast-count c = search needs
 complete-requires : tie.Need-complete-requires
 complete-requires c κs = search needs
 
-length-requires : tie.Need-length-requires
-length-requires c κs = search needs
+header-length-requires : tie.Need-header-length-requires
+header-length-requires c κs = search needs
 
-count-taken-requires : tie.Need-count-taken-requires
-count-taken-requires c κs = search needs
+count-place-requires : tie.Need-count-place-requires
+count-place-requires c κs = search needs
 
 limit-requires : tie.Need-limit-requires
 limit-requires c κs = search needs
@@ -39,7 +39,7 @@ unfolding placeOf
 returns c =
     let l = c .before .before .before .before in
     let f = l .before .before .before .before .before .before .before .before .before in
-    simp (c .all .ensures, l .limit .ensures, l .before .count-taken .ensures, f .length .ensures, f .before .complete .ensures)
+    simp (c .all .ensures, l .limit .ensures, l .before .count-place .ensures, f .header-length .ensures, f .before .complete .ensures)
 
 pub place-spec : {M : Type 1} → statement M
 place-spec =
@@ -50,8 +50,8 @@ place-spec =
     array-read-third
     cast-count
     complete-requires
-    length-requires
-    count-taken-requires
+    header-length-requires
+    count-place-requires
     limit-requires
     slice-aggregate-all
     all-requires
