@@ -1,4 +1,4 @@
--- Listing in full: a record's line, the end line, and the listing of a capture, as bytes.
+-- Listing in full: a record's line, the lines of answers and the end line, as bytes.
 -- Assumes nothing.
 use Prim.Native.Nat.{ℕ, _+_, _-_, _/_, _%_, _^_}
 use mathlib.Core.Path.{_≡_}
@@ -6,7 +6,6 @@ use mathlib.Core.Bool.{cond}
 use mathlib.Core.List.{List, [], _∷_, _++_}
 use lib.Dec.{ltb, leb, eqb}
 use lib.ListN.{length, drop}
-use Rattle.capture.specs.Whole.{wholeOf}
 
 -- ---- numbers
 
@@ -60,14 +59,6 @@ abbrev pub linesOf : ℕ → List ℕ → List ℕ
 linesOf n [] = []
 linesOf n (a ∷ []) = []
 linesOf n (a ∷ b ∷ answers) = lineOf n a b ++ linesOf (n + 1) answers
-
--- of answers, records done and finishing code
-abbrev pub listingOf : List ℕ → ℕ → ℕ → List ℕ
-listingOf answers done finishing = linesOf 1 answers ++ endLineOf done finishing
-
--- of a capture
-abbrev pub captureListingOf : List ℕ → List ℕ
-captureListingOf capture = listingOf (wholeOf capture .answers) (wholeOf capture .reader .done) (wholeOf capture .finishing)
 
 -- ---- what a writer of lines promises: a text to the front of the lent buffer, how many bytes, and the rest of the buffer as it was
 

@@ -19,11 +19,12 @@ use Rattle.capture.proofs.InRange.{ranges}
 use Rattle.capture_laws.proofs.Rooms.{feed-fits}
 use Rattle.capture_laws.proofs.Run.{runOf, run-append, run-held, run-ranges}
 use Rattle.capture_laws.proofs.Sections.{whole-run, whole-finishing}
-use Rattle.lines.specs.Lines.{linesOf, endLineOf, captureListingOf}
+use Rattle.lines.specs.Lines.{linesOf, endLineOf}
 use Rattle.lines_laws.specs.Turns.{Turn, Turns, Output}
 use Rattle.lines_laws.specs.Turns.Turns.{at-end, refused, goes-on}
 use Rattle.lines_laws.proofs.Numbered.{laid-front, lined-front, end-short, not-round, lines-all, lines-append}
 use Rattle.capture_laws.proofs.Fours.{run-even, run-code, answers-fit, done-fits}
+use Rattle.lines_laws.specs.WholeListing.{captureListingOf}
 
 -- ---- one turn
 

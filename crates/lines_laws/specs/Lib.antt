@@ -1,3 +1,4 @@
+pub mod WholeListing
 pub mod Turns
 pub mod Listing
 pub mod Examples

@@ -3,8 +3,9 @@
 use Prim.Native.Nat.{ℕ}
 use mathlib.Core.Path.{_≡_, refl}
 use mathlib.Core.List.{List, [], _∷_}
-use Rattle.lines.specs.Lines.{digitOf, hexOf, zerosOf, captureListingOf}
+use Rattle.lines.specs.Lines.{digitOf, hexOf, zerosOf}
 use Rattle.capture.specs.Opened.{captureOpened}
+use Rattle.lines_laws.specs.WholeListing.{captureListingOf}
 
 abbrev pub bytes : List ℕ
 bytes =
