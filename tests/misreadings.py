@@ -5,9 +5,10 @@ Each misreadings/NAME.edit has a first line, '# WORDS; noticed by: CRATE/FILE: T
 whose statements are false under the misreading, and then lines 'file:' (from the repository's root), 'old:' and 'new:' as a must-fail
 edit has them; an old text stands exactly once in its file. Pairs in proofs/ may mend a law that is still true.
 
-No function stands in the copy that is changed, so theorems and worked examples alone can notice. The copy is proved unchanged first.
-Then each edit is applied to a copy of its own, and the changed crates and all above them are checked. An edit is noticed if every
-theorem that it names is among the errors, and ill-formed if an error stands at the text that it changes.
+No function stands in the copy that is changed, so theorems and worked examples alone can notice. If all theorems that an edit names stand in
+specs/, where they are computed, no law stands in its copy either: then no proof that merely breaks can hide them. Each sort of copy is
+proved unchanged first. Then each edit is applied to a copy of its own, and the crates of the theorems that it names are checked. An edit is
+noticed if every theorem that it names is among the errors, and ill-formed if an error stands at the text that it changes.
 
     tests/misreadings.py [--only NAME] [--jobs 1|2] [--work FOLDER] [--read]
 
@@ -60,6 +61,8 @@ class Edit:
             if text.count(old) != 1:
                 raise Bad(f"{self.name}: its old text stands {text.count(old)} times in {file}: {old}")
         self.crates = sorted({Path(file).parts[1] for file, _, _ in self.pairs})
+        self.asked = sorted({Path(file).parts[1] for file, _ in self.theorems})
+        self.laws = any(Path(file).parts[2] == "proofs" for file, _ in self.theorems)
 
     def apply(self, where):
         """Applies the pairs; gives the (file, declaration) that each changes."""
@@ -133,11 +136,11 @@ def used(line, body):
     return name[0].isupper() and re.search(rf"\b{name}\b", body)
 
 
-def strip(crate):
-    """Takes the functions out of a crate's folder; gives whether anything to prove is left."""
+def strip(crate, laws):
+    """Takes the functions, and the laws unless they are wanted, out of a crate's folder; gives whether anything to prove is left."""
     for proof in list(crate.glob("proofs/**/Proof.antt")):
         shutil.rmtree(proof.parent)
-    for part in ("must-fail", "data"):
+    for part in ("must-fail", "data") if laws else ("must-fail", "data", "proofs"):
         shutil.rmtree(crate / part, ignore_errors=True)
     for part in ("stdin", "stdout", "args"):
         (crate / part).unlink(missing_ok=True)
@@ -165,11 +168,11 @@ def copy(source, where):
     shutil.copy(source / "crates.txt", where / "crates.txt")
 
 
-def theorems_alone(where):
-    """The repository's crates, without functions; gives what each stands on."""
+def theorems_alone(where, laws):
+    """The repository's crates, without functions, and without proofs/ unless laws are wanted; gives what each stands on."""
     copy(ROOT, where)
     crates = read_crates(where)
-    gone = [crate for crate in crates if not strip(where / "crates" / crate)]
+    gone = [crate for crate in crates if not strip(where / "crates" / crate, laws)]
     for crate in gone:
         shutil.rmtree(where / "crates" / crate)
     kept = {crate: [below for below in needs if below not in gone] for crate, needs in crates.items() if crate not in gone}
@@ -217,7 +220,7 @@ def try_edit(edit, base, crates):
             if crate not in above:
                 take_proved(base, where, crate)
         changed = edit.apply(where)
-        said, status = check(where, above)
+        said, status = check(where, edit.asked)
         return judge(edit, changed, status, list(errors(said, where)), said)
 
 
@@ -256,21 +259,22 @@ def kind(file, theorem):
 # ---- the command
 
 
-def prove(where):
-    crates = theorems_alone(where)
+def prove(where, laws):
+    where.mkdir(parents=True, exist_ok=True)
+    crates = theorems_alone(where, laws)
     said, status = check(where, [])
     if status:
         print(said[-4000:])
         raise Bad("the definitions and theorems alone, unchanged, are not proved, see above")
-    print(f"unchanged: proved, {len(crates)} crates", flush=True)
-    return crates
+    print(f"unchanged, {'laws and examples' if laws else 'examples alone'}: proved, {len(crates)} crates", flush=True)
+    return where, crates
 
 
-def try_all(edits, base, crates, jobs):
+def try_all(edits, bases, jobs):
     lock = threading.Lock()
 
     def one(edit):
-        noticed, told = try_edit(edit, base, crates)
+        noticed, told = try_edit(edit, *bases[edit.laws])
         with lock:
             print(f"{edit.name}: {told}", flush=True)
         return noticed
@@ -295,9 +299,10 @@ def main():
             raise Bad("--work names a folder of the repository")
         base.mkdir(parents=True, exist_ok=True)
         if asked.read:
-            print(f"misreadings: {len(edits)} edits, {len(theorems_alone(base))} crates, nothing proved")
+            print(f"misreadings: {len(edits)} edits, {len(theorems_alone(base, True))} crates, nothing proved")
             return 0
-        told = try_all(edits, base, prove(base), asked.jobs)
+        bases = {laws: prove(base / ("laws" if laws else "examples"), laws) for laws in {edit.laws for edit in edits}}
+        told = try_all(edits, bases, asked.jobs)
     print(f"{sum(told)} noticed, {len(told) - sum(told)} not")
     return 0 if all(told) else 1
 
