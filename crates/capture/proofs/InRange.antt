@@ -19,7 +19,8 @@ use Rattle.record.specs.Record.{decodeOf, codeOf}
 use Rattle.capture.specs.declared.Reader.{Reader}
 use Rattle.capture.specs.Sensor.{Sensor, countPlace, headerLength, sensorRanges, sensorPowered, sensorEffect}
 use Rattle.capture.specs.Reader.{withCount, withDevice, holdOf, betweenOf, headerLengthOf, inHeader, headerDone, countTaken, limitOf}
-use Rattle.capture.specs.Reader.{placeTests, placeOf, rangesOf, Turn, headTakenOf, openedOf, variantTakenOf, countedOf, carryOf, judgedOf, headOf, recordOf, turnOf}
+use Rattle.capture.specs.Reader.{placeTests, placeOf, rangesOf, Turn, headTakenOf, openedOf, variantTakenOf, countedOf}
+use Rattle.capture.specs.Reader.{carryOf, judgedOf, headOf, recordOf, turnOf}
 use Rattle.capture.proofs.Limits.{limit-small, limit-all, limit-next}
 use Rattle.capture.proofs.Sensors.{powered-devices, effect-devices, early-ranges, powered-ranges, later-ranges, effect-ranges}
 
