@@ -101,7 +101,16 @@ module _ {d : Device} (r : Ranged d) where
   fired-ranged : Ranged (firedOf d)
   unfolding firedOf knownOf readableOf writableOf
   fired-ranged =
-      record { faults = r .faults; under = r .under; over = r .over; pointer = refl; status = r .status; live = r .live; masks = r .masks; pending = still (d .pending) (standbyOf (d .settings)) (r .pending) }
+      record {
+        faults = r .faults;
+        under = r .under;
+        over = r .over;
+        pointer = refl;
+        status = r .status;
+        live = r .live;
+        masks = r .masks;
+        pending = still (d .pending) (standbyOf (d .settings)) (r .pending);
+      }
     where
       still : (p s : Bool) → (not p || s) ≡ true → (not (p || s) || s) ≡ true
       still true s e = e
@@ -135,9 +144,16 @@ masked-ranged : {d : Device} → Ranged d → Ranged (maskedOf d)
 unfolding maskedOf
 masked-ranged {d} r =
     let s = d .settings in
-    let change : changedOf s 0x03 (bitOr (settingOf s 0x03) 0x80) ≡ set s 0 (bitOr (getD s 0 0) 0x80) = change-configuration s (bitOr (settingOf s 0x03) 0x80) ∙ ap (λ (x : ℕ). set s 0 (bitOr x 0x80)) (configuration s) in
-    let kept = set-masks s 0 (bitOr (getD s 0 0) 0x80) (subst (λ (x : ℕ). bitAnd (bitOr x 0x80) 0xD5 ≡ bitOr x 0x80) (first-kept s (r .masks)) (mask-kept (getD s 0 0) (first-byte s (r .masks)))) (r .masks) in
-    let stays : standbyOf (set s 0 (bitOr (getD s 0 0) 0x80)) ≡ standbyOf s = ap (λ (x : ℕ). has x 0x40) (configuration (set s 0 (bitOr (getD s 0 0) 0x80))) ∙ standby-stays s (r .masks) ∙ ap (λ (x : ℕ). has x 0x40) (sym (configuration s)) in
+    let new = bitOr (getD s 0 0) 0x80 in
+    let change : changedOf s 0x03 (bitOr (settingOf s 0x03) 0x80) ≡ set s 0 new =
+    change-configuration s (bitOr (settingOf s 0x03) 0x80) ∙ ap (λ (x : ℕ). set s 0 (bitOr x 0x80)) (configuration s) in
+    let within = mask-kept (getD s 0 0) (first-byte s (r .masks)) in
+    let fits = subst (λ (x : ℕ). bitAnd (bitOr x 0x80) 0xD5 ≡ bitOr x 0x80) (first-kept s (r .masks)) within in
+    let kept = set-masks s 0 new fits (r .masks) in
+    let after = ap (λ (x : ℕ). has x 0x40) (configuration (set s 0 new)) in
+    let stays : standbyOf (set s 0 new) ≡ standbyOf s =
+    after ∙ standby-stays s (r .masks) ∙ ap (λ (x : ℕ). has x 0x40) (sym (configuration s)) in
+    let still = subst (λ (b : Bool). (not (d .pending) || b) ≡ true) (sym stays) (r .pending) in
     record {
       faults = r .faults;
       under = r .under;
@@ -146,7 +162,7 @@ masked-ranged {d} r =
       status = r .status;
       live = r .live;
       masks = subst (λ (l : List ℕ). masksOf l ≡ true) (sym change) kept;
-      pending = subst (λ (l : List ℕ). (not (d .pending) || standbyOf l) ≡ true) (sym change) (subst (λ (b : Bool). (not (d .pending) || b) ≡ true) (sym stays) (r .pending));
+      pending = subst (λ (l : List ℕ). (not (d .pending) || standbyOf l) ≡ true) (sym change) still;
     }
 
 -- ---- a conversion

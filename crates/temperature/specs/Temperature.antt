@@ -1,5 +1,5 @@
--- P1 to P3, and P8's comparison with limit minus hysteresis: temperatures, limits and offsets. A number of eighths of a degree is called t, a sum or a limit; bytes are as they
--- stand in the registers. `pos n` is n, `negℤ (pos n)` is -n, and `negsuc n` is -(n + 1).
+-- P1 to P3, and P8's comparison with limit minus hysteresis: temperatures, limits and offsets. A number of eighths of a degree is called t,
+-- a sum or a limit; bytes are as they stand in the registers. `pos n` is n, `negℤ (pos n)` is -n, and `negsuc n` is -(n + 1).
 -- Assumes nothing.
 use Prim.Native.Nat.{ℕ, suc, _-_, _*_, _/_, _%_}
 use mathlib.Core.Bool.{Bool, cond}

@@ -17,7 +17,10 @@ refused-requires c κs = search needs
 
 returns : tie.Need-returns
 unfolding stepOf
-returns c = rw (c .refused .ensures, ← c .before .before .ranged .ensures, ← c .before .before .before .variant .ensures, not-true (c .before .before .before .variant .result && c .before .before .ranged .result) (c .before .if1 .taken))
+returns c =
+    let b = c .before .before in
+    let out = not-true (b .before .variant .result && b .ranged .result) (c .before .if1 .taken) in
+    rw (c .refused .ensures, ← b .ranged .ensures, ← b .before .variant .ensures, out)
 
 operands-requires : tie.Need-operands-requires
 operands-requires c κs = search needs
@@ -29,7 +32,10 @@ returns-2 : tie.Need-returns-2
 unfolding stepOf
 returns-2 c =
     let a = c .before .before .before in
-    rw (c .refused2 .ensures, ← a .before .ranged .ensures, ← a .before .before .variant .ensures, not-false (a .before .before .variant .result && a .before .ranged .result) (a .if1 .left), ← c .before .before .operands .ensures, not-true (c .before .before .operands .result) (c .before .if2 .taken))
+    let o = c .before .before in
+    let in-range = not-false (a .before .before .variant .result && a .before .ranged .result) (a .if1 .left) in
+    let bad = not-true (o .operands .result) (c .before .if2 .taken) in
+    rw (c .refused2 .ensures, ← a .before .ranged .ensures, ← a .before .before .variant .ensures, in-range, ← o .operands .ensures, bad)
 
 effect-requires : tie.Need-effect-requires
 effect-requires c κs = search needs
@@ -42,7 +48,17 @@ unfolding stepOf
 returns-3 c =
     let a = c .before .before .before in
     let b = a .before .before in
-    rw (c .answer .ensures, c .before .before .effect .ensures, ← b .before .ranged .ensures, ← b .before .before .variant .ensures, not-false (b .before .before .variant .result && b .before .ranged .result) (b .if1 .left), ← a .before .operands .ensures, not-false (a .before .operands .result) (a .if2 .left))
+    let in-range = not-false (b .before .before .variant .result && b .before .ranged .result) (b .if1 .left) in
+    let good = not-false (a .before .operands .result) (a .if2 .left) in
+    rw (
+      c .answer .ensures,
+      c .before .before .effect .ensures,
+      ← b .before .ranged .ensures,
+      ← b .before .before .variant .ensures,
+      in-range,
+      ← a .before .operands .ensures,
+      good,
+    )
 
 pub step-spec : {M : Type 1} → statement M
 step-spec =

@@ -17,7 +17,10 @@ only-requires-4 : tie.Need-only-requires-4
 only-requires-4 c κs = search needs
 
 returns : tie.Need-returns
-returns c = rw (c .before .before .before .only .ensures, c .before .before .only2 .ensures, c .before .only3 .ensures, c .only4 .ensures) (kept-bits (c .before .before .before .before .args .reg) (c .before .before .before .before .fits .reg .fits))
+returns c =
+    let a = c .before .before .before in
+    let told = kept-bits (a .before .args .reg) (a .before .fits .reg .fits) in
+    rw (a .only .ensures, c .before .before .only2 .ensures, c .before .only3 .ensures, c .only4 .ensures) told
 
 pub kept-spec : {M : Type 1} → statement M
 kept-spec =

@@ -34,7 +34,9 @@ add-result-5 : tie.Need-add-result-5
 add-result-5 c = search needs
 
 returns : tie.Need-returns
-returns c = rw (c .before .before .before .before .shift .ensures .0, c .before .before .before .shift2 .ensures .0, c .before .before .shift3 .ensures .0, c .before .shift4 .ensures .0, c .shift5 .ensures .0)
+returns c =
+    let c3 = c .before .before in
+    rw (c3 .before .before .shift .ensures .0, c3 .before .shift2 .ensures .0, c3 .shift3 .ensures .0, c .before .shift4 .ensures .0, c .shift5 .ensures .0)
 
 pub place-spec : {M : Type 1} → statement M
 place-spec =
