@@ -10,9 +10,10 @@ specs/, where they are computed, no law stands in its copy either: then no proof
 proved unchanged first. Then each edit is applied to a copy of its own, and the crates of the theorems that it names are checked. An edit is
 noticed if every theorem that it names is among the errors, and ill-formed if an error stands at the text that it changes.
 
-    tests/misreadings.py [--only NAME] [--jobs 1|2] [--work FOLDER] [--read]
+    tests/misreadings.py [--only NAME] [--jobs 1|2] [--work FOLDER] [--read] [--table]
 
---work keeps the proved copy in a folder for the next run; --read only reads the edits and makes the copy, and proves nothing.
+--work keeps the proved copy in a folder for the next run; --read only reads the edits, sees that docs/MISREADINGS.md has a row for each, and
+makes the copy, and proves nothing; --table prints those rows.
 Prints a line for each edit and last 'N noticed, M not'; exits 1 unless all are noticed. Writes nothing to the repository.
 """
 import argparse
@@ -29,6 +30,7 @@ from pathlib import Path
 
 ROOT = Path(__file__).resolve().parent.parent
 EDITS = ROOT / "misreadings"
+LIST = ROOT / "docs/MISREADINGS.md"
 HEAD = re.compile(r"# (.+); noticed by: (.+)")
 PLACE = re.compile(r"(\w+/(?:specs|proofs)/[\w/]+\.antt): (.+)")
 FUNCTION = re.compile(r"(?:pub(?:\([^)]*\))? )?(?:extern \"C\" )?fn \w+")
@@ -63,6 +65,10 @@ class Edit:
         self.crates = sorted({Path(file).parts[1] for file, _, _ in self.pairs})
         self.asked = sorted({Path(file).parts[1] for file, _ in self.theorems})
         self.laws = any(Path(file).parts[2] == "proofs" for file, _ in self.theorems)
+
+    def row(self):
+        """Its line of the table."""
+        return f"| {self.words} | {', '.join(f'`{place(*theorem)}`' for theorem in self.theorems)} |"
 
     def apply(self, where):
         """Applies the pairs; gives the (file, declaration) that each changes."""
@@ -284,21 +290,29 @@ def try_all(edits, bases, jobs):
 
 
 def main():
-    options = argparse.ArgumentParser(usage="tests/misreadings.py [--only NAME] [--jobs 1|2] [--work FOLDER] [--read]")
+    options = argparse.ArgumentParser(usage="tests/misreadings.py [--only NAME] [--jobs 1|2] [--work FOLDER] [--read] [--table]")
     options.add_argument("--only")
     options.add_argument("--jobs", type=int, choices=(1, 2), default=1)
     options.add_argument("--work", type=Path)
     options.add_argument("--read", action="store_true")
+    options.add_argument("--table", action="store_true")
     asked = options.parse_args()
     edits = [Edit(path) for path in sorted(EDITS.glob("*.edit")) if asked.only in (None, path.stem)]
     if not edits:
         raise Bad(f"no misreading {asked.only or ''} in {EDITS}")
+    if asked.table:
+        print("\n".join(edit.row() for edit in edits))
+        return 0
     with tempfile.TemporaryDirectory(prefix="misreadings-") as folder:
         base = (asked.work or Path(folder)).resolve()
         if base.is_relative_to(ROOT):
             raise Bad("--work names a folder of the repository")
         base.mkdir(parents=True, exist_ok=True)
         if asked.read:
+            listed = LIST.read_text().split("\n")
+            unlisted = [edit.name for edit in edits if edit.row() not in listed]
+            if unlisted:
+                raise Bad(f"{LIST.name} has no such row for {', '.join(unlisted)}: paste what --table prints")
             print(f"misreadings: {len(edits)} edits, {len(theorems_alone(base, True))} crates, nothing proved")
             return 0
         bases = {laws: prove(base / ("laws" if laws else "examples"), laws) for laws in {edit.laws for edit in edits}}
