@@ -11,13 +11,17 @@ unfoldable pinsOpened : Unit {0}
 unfolding comparatorOf watchedOf alertOf tcritOf pinsOf firstOf
 pinsOpened = tt
 
-unfoldable bus1Opened : Unit {0}
-unfolding maskedOf storedOf firedOf putOf statusReadOf readOnlyValueOf valueOf getOf pointOf respondsOf respondOf
-bus1Opened = tt
+unfoldable writesOpened : Unit {0}
+unfolding maskedOf storedOf firedOf putOf
+writesOpened = tt
 
-unfoldable bus2Opened : Unit {0}
+unfoldable readsOpened : Unit {0}
+unfolding statusReadOf readOnlyValueOf valueOf getOf pointOf respondsOf respondOf
+readsOpened = tt
+
+unfoldable convertsOpened : Unit {0}
 unfolding takesOf convertedOf senseOf poweredOf
-bus2Opened = tt
+convertsOpened = tt
 
 unfoldable rangesOpened : Unit {0}
 unfolding variantOf masksOf rangedOf operandsOf
@@ -28,5 +32,5 @@ unfolding effectOf answerOf stepOf
 stepOpened = tt
 
 unfoldable pub deviceOpened : Unit {0}
-unfolding conversionOpened pinsOpened bus1Opened bus2Opened rangesOpened stepOpened
+unfolding conversionOpened pinsOpened writesOpened readsOpened convertsOpened rangesOpened stepOpened
 deviceOpened = tt

@@ -4,19 +4,18 @@
 -- Assumes nothing.
 use mathlib.Core.Path.{_≡_, refl, ap, sym, _∙_}
 use mathlib.Core.Bool.{Bool, true, false, not, _||_, _&&_, and-true, and-false, or-false}
-use mathlib.Core.List.{List, [], _∷_}
-use Prim.Native.Nat.{ℕ, suc, _%_, _^_, _<_}
+use mathlib.Core.List.{List}
+use Prim.Native.Nat.{ℕ, _%_, _^_, _<_}
 use native.Mathlib.Nat.{mod-eq-of-lt}
 use native.Mathlib.Omega.{arith}
 use lib.Dec.{eqb, lit<}
 use lib.Bits.{bitAnd, and-mod, and-le-r, or-lt}
-use lib.ListN.{getD, set, length}
-use lib.Seq.{getD-set-same, getD-set-other}
+use lib.ListN.{length}
 use borrow.Author.Tests.{eq-eqb, ne-eqb}
 use Rattle.laws.proofs.Choices.{by-test, clash}
 use Rattle.laws.proofs.Tables.{agree}
 use Rattle.registers.specs.Bits.{has, alerting}
-use Rattle.registers.specs.Page.{find, onPosition, readableOf, settableOf, readPositionOf, settingOf, changedOf, addressOf}
+use Rattle.registers.specs.Page.{readableOf, settableOf, settingOf, changedOf, addressOf}
 use Rattle.conversion.specs.Conversion.{bitOf}
 use Rattle.device_laws.proofs.Bits.{has-or, bit-of}
 use Rattle.device.specs.declared.Device.{Device}
@@ -30,6 +29,7 @@ use Rattle.device.specs.Ranges.{operandsOf}
 use Rattle.device_laws.specs.Codes.{Ready}
 use Rattle.device.proofs.Steps.{step-effect}
 use Rattle.device_laws.specs.Alerts.{anyOfSix, Responds, StatusRead, FirstByte}
+use Rattle.device_laws.proofs.Changes.{setting-other, setting-same}
 
 -- ---- ALERT
 
@@ -92,27 +92,12 @@ module _ (d : Device) where
 
 -- ---- alert response
 
--- a register that stands behind the first
-behind : (s : List ℕ) (b x n : ℕ) (l : List ℕ)
-    → onPosition (find x (suc n) l) (λ i. getD (set s 0 b) i 0) 0 ≡ onPosition (find x (suc n) l) (λ i. getD s i 0) 0
-behind s b x n [] = refl
-behind s b x n (y ∷ ys) =
-    by-test (eqb x y) (λ t. rw t (getD-set-other s 0 (suc n) b 0 (λ (e : suc n ≡ 0). absurd (omega arith))))
-    (λ t. rw t (behind s b x (suc n) ys))
-
--- a register that is not the first
-not-first : (s : List ℕ) (b first x : ℕ) (l : List ℕ) → (x ≡ first → ⊥)
-    → onPosition (find x 0 (first ∷ l)) (λ i. getD (set s 0 b) i 0) 0 ≡ onPosition (find x 0 (first ∷ l)) (λ i. getD s i 0) 0
-not-first s b first x l h = rw (ne-eqb x first h) (behind s b x 0 l)
-
 others-same : (s : List ℕ) (b r : ℕ) → (r ≡ 0x03 → ⊥) → settingOf (changedOf s 0x03 b) r ≡ settingOf s r
-unfolding settingOf readPositionOf changedOf
-others-same s b r h =
-    not-first s b 0x03 r (0x04 ∷ 0x05 ∷ 0x06 ∷ 0x07 ∷ 0x08 ∷ 0x11 ∷ 0x12 ∷ 0x13 ∷ 0x14 ∷ 0x19 ∷ 0x20 ∷ 0x21 ∷ 0xBF ∷ []) h
+others-same s b r h = setting-other s r 0x03 b (ne-eqb r 0x03 h)
 
 mask-bit : (s : List ℕ) (b : ℕ) → length s ≡ 14 → settingOf (changedOf s 0x03 b) 0x03 ≡ b
-unfolding settingOf readPositionOf changedOf
-mask-bit s b h = getD-set-same s 0 b 0 (omega arith)
+unfolding settableOf
+mask-bit s b h = setting-same s 0x03 b h refl
 
 module _ (d : Device) where
   responded : respondsOf d ≡ (alertOf d && not (has (settingOf (d .settings) 0xBF) 0x01))

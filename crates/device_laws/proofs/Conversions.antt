@@ -1,8 +1,8 @@
--- `taken-exactly`: when a conversion is taken (P11). `converted`: what it then does. `live-depends`: what the live byte depends on.
+-- `converted`: what a taken conversion does. `live-depends`: what the live byte depends on.
 -- `count-in-a-row`: the fault count over faults in a row (P4).
 -- Assumes nothing.
 use mathlib.Core.Path.{_≡_, refl, ap, _∙_}
-use mathlib.Core.Bool.{Bool, true, false, not, _||_}
+use mathlib.Core.Bool.{Bool, true, false}
 use mathlib.Core.List.{List, [], _∷_}
 use Prim.Native.Nat.{ℕ, _+_, min, _≤_}
 use native.Mathlib.Omega.{arith}
@@ -10,8 +10,6 @@ use lib.IntN.{ℤ}
 use lib.ListN.{length}
 use Rattle.laws.proofs.Choices.{by-test, clash}
 use Rattle.temperature.specs.Temperature.{sumOf, heldOf}
-use Rattle.registers.specs.Bits.{has}
-use Rattle.registers.specs.Page.{settingOf}
 use Rattle.conversion.specs.Conversion.{readingOf, sensedOf}
 use Rattle.device_laws.specs.AfterConversion.{SameLimits}
 use Rattle.device_laws.proofs.AfterConversion.{after-conversion, same-live}
@@ -38,17 +36,6 @@ sensed-in d (Receive a) c = absurd c
 sensed-in d (Convert local high low) c = ap (λ (t : ℤ). senseOf d local t false) (reading-in d local high low)
 sensed-in d (Open local) c = refl
 sensed-in d PowerOn c = absurd c
-
-sense-taken : (d : Device) (local : ℕ) (remote : ℤ) (diodeOpen : Bool)
-    → senseOf d local remote diodeOpen .taken ≡ (not (has (settingOf (d .settings) 0x03) 0x40) || d .pending)
-unfolding senseOf takesOf
-sense-taken d local remote diodeOpen =
-    by-test (not (has (settingOf (d .settings) 0x03) 0x40) || d .pending) (λ t. rw t) (λ t. rw t)
-
--- P11: out of standby, or with a one-shot pending
-pub taken-exactly : (d : Device) (e : Event) → IsConversion e
-    → effectOf d e .taken ≡ (not (has (settingOf (d .settings) 0x03) 0x40) || d .pending)
-taken-exactly d e c = rw (sensed-in d e c) (sense-taken d (localIn e) (readingIn d e) (openIn e))
 
 sense-takes : (d : Device) (local : ℕ) (remote : ℤ) (diodeOpen : Bool) → senseOf d local remote diodeOpen .taken ≡ true
     → senseOf d local remote diodeOpen ≡ record { device = convertedOf d local remote diodeOpen; acknowledged = false; taken = true; byte = 0 }

@@ -3,7 +3,7 @@
 -- acknowledged and taken: `acknowledged-exactly` and `taken-exactly`.
 -- Assumes nothing.
 use mathlib.Core.Path.{_≡_, refl, sym, ap, _∙_}
-use mathlib.Core.Bool.{Bool, true, false, not, cond, _||_, _&&_, and-true, and-false}
+use mathlib.Core.Bool.{Bool, true, false, not, cond, _||_, _&&_, and-true, and-false, or-false}
 use mathlib.Core.List.{List, [], _∷_}
 use Prim.Native.Nat.{ℕ, _+_, _*_, min}
 use lib.IntN.{ℤ, pos, _*ℤ_, +ℤ-idr}
@@ -38,10 +38,6 @@ use Rattle.device.proofs.Untouched.{still}
 pub cond-same : {A : Type 0} (t : Bool) (x : A) → cond t x x ≡ x
 cond-same true x = refl
 cond-same false x = refl
-
-pub or-false : (t : Bool) → (t || false) ≡ t
-or-false true = refl
-or-false false = refl
 
 -- a number outside a list is none of the list's
 pub outside : (l : List ℕ) (k x : ℕ) → among k l ≡ true → among x l ≡ false → eqb x k ≡ false

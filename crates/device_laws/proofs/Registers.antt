@@ -1,7 +1,7 @@
 -- What moves the fourteen register bytes, and the byte read, by register numbers: `setting-moves` and `byte-exactly`.
 -- Assumes nothing.
 use mathlib.Core.Path.{_≡_, refl, sym, ap, _∙_}
-use mathlib.Core.Bool.{Bool, true, false, cond, _||_, _&&_}
+use mathlib.Core.Bool.{Bool, true, false, cond, _||_, _&&_, or-false}
 use mathlib.Core.List.{List, map}
 use Prim.Native.Nat.{ℕ, zero, suc, _+_, _*_, _≤_}
 use native.Mathlib.Omega.{arith}
@@ -28,7 +28,7 @@ use Rattle.device_laws.specs.Moves.{settingAfter, shownAt, registerByte,
 use Rattle.device.specs.Ranges.{variantOf}
 use Rattle.device.specs.Step.{effectOf}
 use Rattle.device_laws.proofs.Changes.{on-list, setting-changed}
-use Rattle.device_laws.proofs.Moves.{cond-same, or-false, outside, response-apart, at-moves, at-leaves, point-moves, sense-moves, responds-exactly}
+use Rattle.device_laws.proofs.Moves.{cond-same, outside, response-apart, at-moves, at-leaves, point-moves, sense-moves, responds-exactly}
 
 -- ---- choices
 
