@@ -46,17 +46,17 @@ answer-requires c κs = search needs
 returns-3 : tie.Need-returns-3
 unfolding stepOf
 returns-3 c =
-    let a = c .before .before .before in
-    let b = a .before .before in
+    let tested = c .before .before .before in
+    let b = tested .before .before in
     let in-range = not-false (b .before .before .variant .result && b .before .ranged .result) (b .if1 .left) in
-    let good = not-false (a .before .operands .result) (a .if2 .left) in
+    let good = not-false (tested .before .operands .result) (tested .if2 .left) in
     rw (
       c .answer .ensures,
       c .before .before .effect .ensures,
       ← b .before .ranged .ensures,
       ← b .before .before .variant .ensures,
       in-range,
-      ← a .before .operands .ensures,
+      ← tested .before .operands .ensures,
       good,
     )
 
