@@ -1,8 +1,15 @@
 /*
  * The LM89 temperature sensor, modelled register for register.
  *
- * lm89_run takes a whole capture; lm89_step and lm89_power_on keep one device in the caller's memory. Link liblm89.a.
+ * lm89_run takes a whole capture; lm89_fresh, lm89_feed and lm89_finish take one in parts; lm89_power_on and lm89_step keep one
+ * device in the caller's memory; lm89_write_header and lm89_write_event write a capture. Link liblm89.a.
  * None of them allocates, keeps anything between calls or touches memory other than what it is lent.
+ *
+ * What a caller owes, beyond what C asks of every program: slices that are lent to one call do not overlap; a slice whose length is not 0
+ * has that many bytes behind its pointer, and NULL with length 0 is allowed for every slice; the device pointer of
+ * lm89_step is not NULL and is aligned. C itself asks that a bool is 0 or 1, and every assignment to one makes it so: a device or
+ * a reader comes from a call, from {0} or from assignment of its fields, not from a copy of raw bytes. Padding is no part of a value:
+ * compare structs field by field. A struct of any other content gets an answer; nothing needs checking beforehand.
  */
 #ifndef LM89_H
 #define LM89_H
@@ -14,6 +21,10 @@
 #ifdef __cplusplus
 extern "C" {
 #endif
+
+/* What this header was written for. Another major number: a struct or an answer is another. Compare with lm89_version(). */
+#define LM89_VERSION_MAJOR 1
+#define LM89_VERSION_MINOR 0
 
 /* The parts. */
 enum {
@@ -41,6 +52,94 @@ enum {
     LM89_KIND_POWER_ON = 7,   /* 0, 0, 0 */
 };
 
+/* Bytes of a capture's header, of a record, and of a record's answer. */
+enum {
+    LM89_HEADER_BYTES = 6,
+    LM89_RECORD_BYTES = 4,
+    LM89_ANSWER_BYTES = 2,
+};
+
+/*
+ * Registers. A setting from configuration to remote low limit is read at one number and written at another; every other register in
+ * the two lower groups that is both read and written has one number. No other register is acknowledged.
+ */
+enum {
+    LM89_READ_LOCAL = 0x00,              /* local reading, degrees */
+    LM89_READ_REMOTE = 0x01,             /* remote reading, high byte: degrees */
+    LM89_READ_STATUS = 0x02,             /* LM89_STATUS_...; reading clears it */
+    LM89_READ_CONFIGURATION = 0x03,      /* LM89_CONFIGURATION_... */
+    LM89_READ_RATE = 0x04,               /* conversion rate, kept without effect */
+    LM89_READ_LOCAL_HIGH = 0x05,         /* local high limit */
+    LM89_READ_LOCAL_LOW = 0x06,          /* local low limit */
+    LM89_READ_REMOTE_HIGH = 0x07,        /* remote high limit, high byte */
+    LM89_READ_REMOTE_LOW = 0x08,         /* remote low limit, high byte */
+    LM89_READ_REMOTE_LOW_BYTE = 0x10,    /* remote reading, low byte: eighths in its top three bits */
+    LM89_READ_MANUFACTURER = 0xFE,       /* 01h */
+    LM89_READ_REVISION = 0xFF,           /* 31h, 34h, 35h in order of LM89_VARIANT_... */
+
+    LM89_WRITE_CONFIGURATION = 0x09,
+    LM89_WRITE_RATE = 0x0A,
+    LM89_WRITE_LOCAL_HIGH = 0x0B,
+    LM89_WRITE_LOCAL_LOW = 0x0C,
+    LM89_WRITE_REMOTE_HIGH = 0x0D,
+    LM89_WRITE_REMOTE_LOW = 0x0E,
+    LM89_WRITE_ONE_SHOT = 0x0F,          /* any value: in standby one conversion is taken */
+
+    LM89_REGISTER_OFFSET = 0x11,                /* remote offset, high byte */
+    LM89_REGISTER_OFFSET_LOW_BYTE = 0x12,
+    LM89_REGISTER_REMOTE_HIGH_LOW_BYTE = 0x13,  /* remote high limit, low byte */
+    LM89_REGISTER_REMOTE_LOW_LOW_BYTE = 0x14,   /* remote low limit, low byte */
+    LM89_REGISTER_REMOTE_TCRIT = 0x19,
+    LM89_REGISTER_LOCAL_TCRIT = 0x20,
+    LM89_REGISTER_HYSTERESIS = 0x21,            /* T_CRIT hysteresis, degrees */
+    LM89_REGISTER_FILTER = 0xBF,                /* filter and alert: LM89_FILTER_... */
+};
+
+/* Bits of status and of the live byte. D7, busy, is 0. */
+enum {
+    LM89_STATUS_LHIGH = 0x40, /* local reading above its high limit */
+    LM89_STATUS_LLOW = 0x20,  /* local reading below its low limit */
+    LM89_STATUS_RHIGH = 0x10, /* remote reading above its high limit */
+    LM89_STATUS_RLOW = 0x08,  /* remote reading below its low limit */
+    LM89_STATUS_OPEN = 0x04,  /* the remote diode is open; pulls no pin */
+    LM89_STATUS_RCRIT = 0x02, /* remote reading above remote T_CRIT */
+    LM89_STATUS_LCRIT = 0x01, /* local reading above local T_CRIT */
+};
+
+/* Bits of the configuration. The others are not kept. */
+enum {
+    LM89_CONFIGURATION_ALERT_MASK = 0x80, /* ALERT is not pulled */
+    LM89_CONFIGURATION_STANDBY = 0x40,    /* conversions are taken only after a one-shot */
+    LM89_CONFIGURATION_REMOTE_TCRIT_MASK = 0x10,
+    LM89_CONFIGURATION_LOCAL_TCRIT_MASK = 0x04,
+    LM89_CONFIGURATION_FAULT_QUEUE = 0x01, /* remote bits are live after three faults in a row */
+};
+
+/* Bits of the filter and alert register. The others are not kept. */
+enum {
+    LM89_FILTER_BITS = 0x06,       /* kept without effect */
+    LM89_FILTER_COMPARATOR = 0x01, /* ALERT follows the last conversion, not status; no alert response */
+};
+
+/* Where each setting stands in a device's settings: rising order of the numbers at which they are written. */
+enum {
+    LM89_SETTING_CONFIGURATION = 0,
+    LM89_SETTING_RATE = 1,
+    LM89_SETTING_LOCAL_HIGH = 2,
+    LM89_SETTING_LOCAL_LOW = 3,
+    LM89_SETTING_REMOTE_HIGH = 4,
+    LM89_SETTING_REMOTE_LOW = 5,
+    LM89_SETTING_OFFSET = 6,
+    LM89_SETTING_OFFSET_LOW_BYTE = 7,
+    LM89_SETTING_REMOTE_HIGH_LOW_BYTE = 8,
+    LM89_SETTING_REMOTE_LOW_LOW_BYTE = 9,
+    LM89_SETTING_REMOTE_TCRIT = 10,
+    LM89_SETTING_LOCAL_TCRIT = 11,
+    LM89_SETTING_HYSTERESIS = 12,
+    LM89_SETTING_FILTER = 13,
+    LM89_SETTINGS = 14,
+};
+
 /* Codes. */
 enum {
     LM89_CODE_DONE = 0,         /* none of the others applies */
@@ -51,7 +150,7 @@ enum {
     LM89_CODE_PAST_END = 5,     /* a byte comes after the last counted record */
     LM89_CODE_CUT_SHORT = 6,    /* the capture ends before its counted end */
     LM89_CODE_NO_ROOM = 7,      /* a valid record, and fewer than two bytes of room for its answers */
-    LM89_CODE_RANGE = 8,        /* the device handed in is out of its ranges */
+    LM89_CODE_RANGE = 8,        /* the device or reader handed in is out of its ranges */
 };
 
 /* Bits of the first answer byte; the other four are 0. The pins are as they stand after the record. */
@@ -73,14 +172,8 @@ typedef struct {
 } lm89_sensed;
 
 /*
- * One device. The settings stand in rising order of write addresses (hex), with the bits that each keeps:
- *    0  09 configuration, D5              7  12 remote offset, low byte, E0
- *    1  0A conversion rate                8  13 remote high limit, low byte, E0
- *    2  0B local high limit               9  14 remote low limit, low byte, E0
- *    3  0C local low limit               10  19 remote T_CRIT
- *    4  0D remote high limit             11  20 local T_CRIT
- *    5  0E remote low limit              12  21 T_CRIT hysteresis, 1F
- *    6  11 remote offset                 13  BF filter and alert, 07
+ * One device. Settings stand at LM89_SETTING_..., each with the bits that it keeps: configuration D5h; the low bytes of offset and of the
+ * remote limits E0h; hysteresis 1Fh; filter and alert 07h; every other all eight.
  * A device is in its ranges when variant is 1 to 3, every other field is as said beside it, and no setting
  * has a bit that it does not keep. Every device reached from lm89_power_on of a variant 1 to 3 by lm89_step is.
  */
@@ -90,8 +183,30 @@ typedef struct {
     uint8_t pointer;      /* a readable or writable register */
     bool pending;         /* a one-shot is pending: only in standby, which is D6 of the configuration */
     uint8_t status;       /* status bits gathered since status was last read; D7 is 0 */
-    uint8_t settings[14];
+    uint8_t settings[LM89_SETTINGS];
 } lm89_device;
+
+/*
+ * A reader of a capture that comes in parts. It is in its ranges when every field is as said beside it. Every reader reached from
+ * lm89_fresh by lm89_feed is.
+ */
+typedef struct {
+    uint8_t head;       /* header bytes taken, 0 to 6 */
+    uint32_t count;     /* record count as far as its bytes are taken: below 256 to the power of these, 0 with none */
+    uint32_t done;      /* records done: at most count, and 0 before the header is complete */
+    uint8_t carried;    /* bytes carried of a record: 0 to 3, and 0 before the header is complete or once all records are done */
+    uint8_t bytes[3];   /* these bytes; unused places are 0 */
+    uint8_t held;       /* a lasting code that refused a byte, 1 to 5, or 0 */
+    lm89_device device; /* in its ranges; before two header bytes are taken its variant may be any number */
+} lm89_reader;
+
+/* What feeding a part gives. */
+typedef struct {
+    uint64_t consumed;  /* bytes of the part that were taken; on codes 1 to 5 and 7 the byte behind them is the one judged */
+    uint64_t written;   /* answer bytes written */
+    uint8_t code;       /* LM89_CODE_... */
+    lm89_reader reader; /* the reader after it */
+} lm89_fed;
 
 /* What a step answers: its code, and the record's two answer bytes. */
 typedef struct {
@@ -100,6 +215,9 @@ typedef struct {
     uint8_t second; /* the byte read, or 0 */
 } lm89_answer;
 
+/* The library's version: 65,536 times its major number plus its minor one. */
+uint32_t lm89_version(void);
+
 /*
  * Runs a whole capture on a device fresh from power-on. A capture is the device count, which is 1; the variant;
  * the record count in four bytes, highest first; and that many records of four bytes: kind, a, b, c.
@@ -107,11 +225,32 @@ typedef struct {
  * Each valid record's two answer bytes go, in order, to the front of answers; the bytes behind them are untouched.
  * Returns sixteen times the answer bytes written, plus a code. The code is the reader's, 1 to 5 or 7, if that is
  * not 0, and else the finishing one: 0 at the counted end, 6 before it. Code 8 is never returned.
- *
- * The caller sees to it that the two slices do not overlap, and that a pointer whose length is not 0 points to that
- * many bytes. NULL with length 0 is allowed for either slice.
  */
 uint64_t lm89_run(const uint8_t *capture, size_t capture_length, uint8_t *answers, size_t answers_length);
+
+/* A reader before its first byte: all zeros. */
+lm89_reader lm89_fresh(void);
+
+/*
+ * Takes the next part of a capture, of any length and cut anywhere, and as much of it as can be. Each valid record's two answer bytes
+ * go, in order, to the front of answers; the bytes behind them are untouched. The code is
+ *   8 if the reader is out of its ranges; nothing is consumed or written, and the reader comes back as it was given;
+ *   then the code that the reader holds, 1 to 5, if it holds one, for the empty part too; nothing is consumed or written;
+ *   else, byte by byte, that of the first byte that is not taken, and 0 if all are:
+ *     1 and 2 as header bytes come, 5 for a byte behind the last counted record,
+ *     3, then 4, then 7 at a record's fourth byte.
+ * A byte that is judged 1 to 5 or 7 is not consumed, and what came before it stays consumed. Codes 1 to 5 last: the reader holds them.
+ * 7 does not: give the unread rest again, with room for two bytes or more.
+ *
+ * However a capture is cut, and whatever room each call has, answers, bytes consumed, codes and the device at the end are the same.
+ */
+lm89_fed lm89_feed(lm89_reader reader, const uint8_t *input, size_t length, uint8_t *answers, size_t room);
+
+/*
+ * Asked at the end of the capture: 8 if the reader is out of its ranges, then the code that it holds, then 6 if the capture is not at its
+ * counted end, else 0.
+ */
+uint8_t lm89_finish(lm89_reader reader);
 
 /*
  * One event, given as its record's four bytes, on the device where it stands. The answer's code is
@@ -120,14 +259,24 @@ uint64_t lm89_run(const uint8_t *capture, size_t capture_length, uint8_t *answer
  *   then 4 if an operand is outside the table of kinds,
  *   else 0.
  * On 8, 3 and 4 both answer bytes are 0 and the device is not changed.
- *
- * The caller sees to it that device is not NULL and is aligned, and that its bool fields are 0 or 1: a device comes
- * from lm89_power_on, from {0} or from assignment of its fields, never from raw bytes.
  */
 lm89_answer lm89_step(lm89_device *device, uint8_t kind, uint8_t a, uint8_t b, uint8_t c);
 
 /* A device as after power-on; all zeros if the variant is not 1 to 3. */
 lm89_device lm89_power_on(uint8_t variant);
+
+/*
+ * Writes a capture's header, LM89_HEADER_BYTES of them, to the front of room: 2 if the variant is not 1 to 3, then 7 if length is
+ * less than six, else 0. On 2 and 7 nothing is written; the bytes behind the header are untouched.
+ */
+uint8_t lm89_write_header(uint8_t variant, uint32_t count, uint8_t *room, size_t length);
+
+/*
+ * Writes an event's record, LM89_RECORD_BYTES of them, kind, a, b, c, to the front of room: 3 if the kind is not 1 to 7, then 4 if an
+ * operand is outside the table of kinds, then 7 if length is less than four, else 0. On 3, 4 and 7 nothing is written; the bytes
+ * behind the record are untouched. What is written is read back as that event, and no other bytes are.
+ */
+uint8_t lm89_write_event(uint8_t kind, uint8_t a, uint8_t b, uint8_t c, uint8_t *room, size_t length);
 
 #ifdef __cplusplus
 }

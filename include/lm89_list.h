@@ -1,0 +1,40 @@
+/*
+ * The listing of a capture, from one open file to another. Link liblm89_list.a; it needs the C library and no other.
+ */
+#ifndef LM89_LIST_H
+#define LM89_LIST_H
+
+#include <stdint.h>
+
+#ifdef __cplusplus
+extern "C" {
+#endif
+
+/* Why there is no whole listing. */
+enum {
+    LM89_LIST_WHOLE = 0,       /* there is one */
+    LM89_LIST_NOT_READ = 1,    /* the input cannot be read */
+    LM89_LIST_NOT_WRITTEN = 2, /* the output cannot be written */
+};
+
+/* How a listing ended. Where it is not whole, the three other numbers are 0. */
+typedef struct {
+    uint64_t consumed; /* bytes of the capture taken; on codes 1 to 5 the byte behind them is the one refused */
+    uint32_t done;     /* records done */
+    uint8_t code;      /* the finishing code, LM89_CODE_... of lm89.h: 0, or 1 to 5 for a refused capture, or 6 for one cut short */
+    uint8_t failure;   /* LM89_LIST_... */
+} lm89_listed;
+
+/*
+ * Reads a capture from the file descriptor input, to its end or to the first refused byte, and writes its listing to the file descriptor
+ * output: a line for each record, its number from 1 and its two answer bytes in upper-case hex; last a line `end`, the records
+ * done and the finishing code. The capture may be of any length; it is read and written in blocks, and nothing is allocated. Both
+ * descriptors stay open. After a failure errno is that of the read or write that failed, and the last line is missing.
+ */
+lm89_listed lm89_list(int32_t input, int32_t output);
+
+#ifdef __cplusplus
+}
+#endif
+
+#endif
