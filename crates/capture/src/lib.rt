@@ -10,6 +10,7 @@ mod sensor;
 mod taking;
 
 // Header bytes taken, record count so far, records done, record bytes carried, a lasting code or 0, and the device.
+#[repr(C)]
 pub struct Reader {
     pub head: u8,
     pub count: u32,
@@ -27,10 +28,11 @@ pub struct Ahead {
 }
 
 // What a call reports.
+#[repr(C)]
 pub struct Fed {
-    pub code: u8,
     pub consumed: usize,
     pub written: usize,
+    pub code: u8,
     pub reader: Reader,
 }
 
@@ -54,9 +56,9 @@ pub(crate) fn report(code: u8, consumed: usize, written: usize, reader: Reader) 
     ensures { λ r. ⌜ r ≡ reportOf code consumed written reader ⌝ }
 {
     Fed {
-        code,
         consumed,
         written,
+        code,
         reader,
     }
 }

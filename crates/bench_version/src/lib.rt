@@ -1,0 +1,11 @@
+// The library's version, for C.
+ghost use mathlib.Core.Path.{_≡_};
+ghost use Rattle.bench_version.specs.Version.{versionOf};
+
+// A header of another major number was written for another library.
+#[no_mangle]
+pub extern "C" fn lm89_version() -> u32
+    ensures { λ r. ⌜ r ≡ versionOf ⌝ }
+{
+    0x10000
+}

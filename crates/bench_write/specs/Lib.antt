@@ -1,0 +1,2 @@
+pub mod BenchWrite
+pub mod Examples
