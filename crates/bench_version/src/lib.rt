@@ -2,10 +2,14 @@
 ghost use mathlib.Core.Path.{_≡_};
 ghost use Rattle.bench_version.specs.Version.{versionOf};
 
+const MAJOR: u32 = 1;
+
+const MINOR: u32 = 0;
+
 // A header of another major number was written for another library.
 #[no_mangle]
 pub extern "C" fn lm89_version() -> u32
     ensures { λ r. ⌜ r ≡ versionOf ⌝ }
 {
-    0x10000
+    MAJOR * 0x10000 + MINOR
 }
