@@ -1,6 +1,6 @@
-"""Holds docs/STATEMENTS.md to the repository. Run from the repository's root.
+"""Holds docs/STATEMENTS.md, the map, and the places that docs/PROFILE.md names, to the repository. Run from the repository's root.
 
-Fails if the map names a file, a definition, a theorem or an edit that does not exist, if an edit is not named in it, if
+Fails if one of them names a file, a definition, a theorem or an edit that does not exist, if an edit is not named in the map, if
 a public function promises anything but an equation and its theorem of one answer is not named, or if the right side of a
 function's equation names its result, as `r ≡ r` does, which any result meets. (That every public function has a promise and
 asks nothing beforehand is tests/house.py's.)
@@ -10,6 +10,7 @@ import sys
 from pathlib import Path
 
 MAP = Path("docs/STATEMENTS.md")
+PROFILE = Path("docs/PROFILE.md")
 CRATES = Path("crates")
 PROOF_PLACE = re.compile(r"(\w+/(?:specs|proofs)/[\w/]+\.antt)(?:: (.+))?")
 EDIT = re.compile(r"\w+/must-fail/\w+")
@@ -99,8 +100,13 @@ def unanswered(words):
     return [f"{function} promises more than an equation and has no theorem of one answer here" for function in functions if function not in words]
 
 
-words = re.findall(r"`([^`\n]+)`", MAP.read_text())
-faults = [f"{MAP}: {fault}" for fault in [fault for word in words for fault in missing(word)] + unnamed_edits(words) + unanswered(words)]
+def words_of(path):
+    return re.findall(r"`([^`\n]+)`", path.read_text())
+
+
+words = words_of(MAP)
+faults = [f"{path}: {fault}" for path in (MAP, PROFILE) for word in words_of(path) for fault in missing(word)]
+faults += [f"{MAP}: {fault}" for fault in unnamed_edits(words) + unanswered(words)]
 faults += would_be_noticed() + [fault for path in sorted(CRATES.glob("*/src/**/*.rt")) for fault in says_nothing(path)]
 for fault in faults:
     print(f"map: {fault}")
