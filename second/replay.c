@@ -8,14 +8,15 @@
  *                                       the room, reader dump
  *   E                                   finish: code
  *   D  device dump                      set the device
- *   S  kind, x, y, z                    step: code, two answer bytes, device dump
- *   W  kind, x, y, z, room 2            write event: code, the room
+ *   S  four bytes                       step: code, two answer bytes, device dump
+ *   W  four bytes, room 2               write event: code, the room
  *   H  variant, count 4, room 2         write header: code, the room
  *   B  four bytes                       decode: code, kind, three operands
  *   C  length 4, room 4, bytes          run: result 8, the room
  *
- * Status 1 with a message on an unknown command, a kind outside 1 to 7 in S or
- * W, a capture or room above 1,000,000 in C, or a stream cut inside a call. */
+ * The four bytes of S, W and B are a record's, and may be any bytes.  Status 1
+ * with a message on an unknown command, a capture or room above 1,000,000 in C,
+ * or a stream cut inside a call. */
 #include "second.h"
 
 #include <stdio.h>
@@ -173,11 +174,8 @@ static void put_reader(const second_reader *reader)
 
 static second_event get_event(void)
 {
-    uint64_t at = offset;
-    uint8_t bytes[4];
-    get(bytes, 4);
-    if (bytes[0] < SECOND_WRITE || bytes[0] > SECOND_POWER_ON)
-        refuse("kind outside 1 to 7,", bytes[0], at);
+    uint8_t bytes[SECOND_RECORD_BYTES];
+    get(bytes, sizeof bytes);
     second_event event = { bytes[0], bytes[1], bytes[2], bytes[3] };
     return event;
 }
