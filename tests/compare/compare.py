@@ -1,12 +1,14 @@
 #!/usr/bin/env python3
 """compare.py ONE OTHER STREAM...: runs two programs on each stream of calls and compares what they write, byte for byte.
 
-ONE and OTHER are commands in one argument each, as 'build/compare/second' or 'qemu-x86_64 target/bin/replay'. ONE's results are
-left beside each stream as STREAM.results. Where they disagree it prints the first call that differs, what each gave, field by
-field, and the shortest stream it finds that still shows a difference; the exit status is 1. To see one such stream again:
+ONE and OTHER are commands in one argument each, as 'build/compare/second' or 'qemu-x86_64 build/compare/library'; they run at the
+same time. ONE's results are left beside each stream as STREAM.results. Where they disagree it prints the first call that differs,
+what each gave, field by field, and the shortest stream it finds that still shows a difference; the exit status is 1. To see one
+such stream again:
 
     python3 tests/hex.py <shortest.hex >shortest && python3 tests/compare/compare.py ONE OTHER shortest
 """
+import concurrent.futures
 import pathlib
 import shlex
 import subprocess
@@ -28,10 +30,11 @@ class Pair:
 
     def __init__(self, one, other):
         self.programs = (one, other)
+        self.pool = concurrent.futures.ThreadPoolExecutor(len(self.programs))
         self.tries = TRIES_MOST
 
     def outcomes(self, stream):
-        return [outcome(program, stream) for program in self.programs]
+        return list(self.pool.map(lambda program: outcome(program, stream), self.programs))
 
     def disagree(self, parts):
         if self.tries == 0:

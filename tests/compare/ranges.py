@@ -14,13 +14,13 @@ def remote_reading(device):
     return int.from_bytes(device[5:7], "big", signed=True)
 
 
-# (field, value, whether it is in range), for fields of a device whose range has ends.
-DEVICE_ENDS = [
-    ("fault count", 0, True), ("fault count", 3, True), ("fault count", 4, False), ("fault count", 255, False),
-    ("remote reading", -1024, True), ("remote reading", 1023, True), ("remote reading", -1025, False),
-    ("remote reading", 1024, False), ("status", 0x7F, True), ("status", 0x80, False), ("live byte", 0x7F, True),
-    ("live byte", 0x80, False), ("one-shot pending, D6 of 09", 1, True), ("one-shot pending, D6 of 09", 0, False),
-]
+# (field, value): whether it is in range, for fields of a device whose range has ends.
+DEVICE_ENDS = {
+    ("fault count", 0): True, ("fault count", 3): True, ("fault count", 4): False, ("fault count", 255): False,
+    ("remote reading", -1024): True, ("remote reading", 1023): True, ("remote reading", -1025): False,
+    ("remote reading", 1024): False, ("status", 0x7F): True, ("status", 0x80): False, ("live byte", 0x7F): True,
+    ("live byte", 0x80): False, ("one-shot pending, D6 of 09", 1): True, ("one-shot pending, D6 of 09", 0): False,
+}
 VARIANT_ENDS = [(0, False), (1, True), (3, True), (4, False), (255, False)]
 
 
@@ -57,7 +57,7 @@ def told(value, fits):
 
 def need(table):
     for name in ("step", "feed", "finish"):
-        for field, value, fits in DEVICE_ENDS:
+        for (field, value), fits in DEVICE_ENDS.items():
             table.need(f"{name}: {field} {told(value, fits)}")
         table.need_all(f"{name}: pointer in range, each of R and W", READABLE + WRITABLE)
         table.need_all(f"{name}: pointer out of range, each other byte", OUTSIDE)
@@ -96,9 +96,9 @@ def need_reader(table, name):
 
 def see_device(table, name, device, faults, code):
     """Counts a device with no field out of range, or one."""
-    values = device_values(device)
-    for field, value, fits in DEVICE_ENDS:
-        if values.get(field) == value and (code != 8 if fits else faults == [field] and code == 8):
+    for field, value in device_values(device).items():
+        fits = DEVICE_ENDS.get((field, value))
+        if fits and code != 8 or fits is False and faults == [field] and code == 8:
             table.count(f"{name}: {field} {told(value, fits)}")
     if code != 8:
         table.count_value(f"{name}: pointer in range, each of R and W", device[1])
