@@ -8,6 +8,7 @@
  *                                       the room, reader dump
  *   E                                   finish: code
  *   D  device dump                      set the device
+ *   P  variant                          set the device by power-on: device dump
  *   S  four bytes                       step: code, two answer bytes, device dump
  *   W  four bytes, room 2               write event: code, the room
  *   H  variant, count 4, room 2         write header: code, the room
@@ -215,6 +216,13 @@ static void call_feed(second_reader *reader)
     free(input);
 }
 
+static void call_power_on(second_device *device)
+{
+    second_power_on(device, (uint8_t)get_number(1));
+    put_byte('P');
+    put_device(device);
+}
+
 static void call_step(second_device *device)
 {
     second_event event = get_event();
@@ -322,6 +330,9 @@ int main(void)
         case 'D':
             get_device(&device);
             put_byte('D');
+            break;
+        case 'P':
+            call_power_on(&device);
             break;
         case 'S':
             call_step(&device);

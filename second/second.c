@@ -186,13 +186,14 @@ static inline uint8_t low_byte(int remote)
 void second_power_on(second_device *device, uint8_t variant)
 {
     memset(device, 0, sizeof *device);
+    if (!variant_known(variant))
+        return;
     device->variant = variant;
     device->settings[SET_RATE] = 8;
     device->settings[SET_LOCAL_HIGH] = 70;
     device->settings[SET_REMOTE_HIGH] = 70;
     device->settings[SET_REMOTE_CRIT] = 110;
-    device->settings[SET_LOCAL_CRIT] =
-        variant_known(variant) ? part[variant].local_crit : 85;
+    device->settings[SET_LOCAL_CRIT] = part[variant].local_crit;
     device->settings[SET_HYSTERESIS] = 10;
 }
 

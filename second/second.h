@@ -1,6 +1,6 @@
-/* Second implementation of document 01 (01-scope.md), written from its words
- * and the two datasheets alone.  The core: no allocation, no changing globals,
- * every function total. */
+/* Second implementation of document 01 (01-scope.md), written from its words,
+ * the two datasheets and the comments of lm89.h alone.  The core: no allocation,
+ * no changing globals, every function total. */
 #ifndef SECOND_H
 #define SECOND_H
 
@@ -99,7 +99,7 @@ bool second_device_in_range(const second_device *device);
 /* True if the reader state is within the ranges of "Codes of the reader". */
 bool second_reader_in_range(const second_reader *reader);
 
-/* The device as after power-on; its variant is the one given, whatever it is. */
+/* The device as after power-on; all zeros if the variant is not 1 to 3. */
 void second_power_on(second_device *device, uint8_t variant);
 
 /* Step the device where it stands: 8, then 3, then 4 (nothing changed, answers

@@ -181,7 +181,12 @@ static void refusals(void)
     CHECK(second_write_header(3, 0x01020304, out, 8) == 0);
     CHECK(memcmp(out, "\x01\x03\x01\x02\x03\x04\xA5\xA5", 8) == 0);
 
-    second_device device;
+    second_device device, zeros;
+    memset(&zeros, 0, sizeof zeros);
+    for (unsigned variant = 4; variant <= 256; variant++) {
+        second_power_on(&device, (uint8_t)variant); /* 256 is 0 */
+        CHECK(memcmp(&device, &zeros, sizeof device) == 0);
+    }
     second_power_on(&device, 1);
     device.pending = true;
     CHECK(second_step(&device, (second_event){ 7, 0, 0, 0 }).code == 8);
@@ -300,7 +305,8 @@ static void anything(void)
         for (size_t i = 0; i < 3; i++)
             reader.carry[i] = i < reader.carried ? (uint8_t)next(9) : 0;
         reader.held = (uint8_t)(next(2) ? 0 : next(8));
-        second_power_on(&reader.device, (uint8_t)next(5));
+        second_power_on(&reader.device, (uint8_t)(1 + next(3)));
+        reader.device.variant = (uint8_t)next(5);
         if (next(2)) {
             reader.device.pointer = (uint8_t)next(256);
             reader.device.status = (uint8_t)next(256);

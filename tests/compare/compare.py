@@ -100,16 +100,16 @@ def without_groups(items, size, still):
 
 def state_call(parts, results, at):
     """A call that sets the reader or device as it stands before a call, or None where the call needs none."""
-    setters = {"S": ("D", "S", calls.DEVICE_BYTES), "F": ("R", "F", calls.READER_BYTES), "E": ("R", "F", calls.READER_BYTES)}
+    setters = {"S": ("D", "PS", calls.DEVICE_BYTES), "F": ("R", "F", calls.READER_BYTES), "E": ("R", "F", calls.READER_BYTES)}
     command = chr(parts[at][0])
     if command not in setters:
         return None
-    setter, mover, length = setters[command]
+    setter, movers, length = setters[command]
     for before in range(at - 1, -1, -1):
         earlier = chr(parts[before][0])
         if earlier == setter:
             return parts[before]
-        if earlier == mover:
+        if earlier in movers:
             return setter.encode() + results[before][-length:]
         if earlier == "N" and setter == "R":
             return b"N"

@@ -48,6 +48,7 @@ def need_everything(table):
     for call in ("step", "run", "decode", "write event"):
         for kind, name in calls.KINDS.items():
             table.need(f"{call}: kind {kind} {name}")
+    table.need_all("power on: each byte as the variant", range(256))
     need_refusals(table)
     need_places(table)
     steps.need(table)
@@ -246,6 +247,10 @@ class Watcher:
 
     def see_set_the_device(self, call, _result):
         self.steps.set_device(call[1:])
+
+    def see_power_on(self, call, result):
+        self.table.count_value("power on: each byte as the variant", call[1])
+        self.steps.set_device(result[1:])
 
     def see_step(self, call, result):
         code, record = result[1], call[1:5]

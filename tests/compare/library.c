@@ -181,6 +181,12 @@ static void feed(lm89_reader *reader)
     put_reader(reader);
 }
 
+static void power_on(lm89_device *device)
+{
+    *device = lm89_power_on((uint8_t)get_number(1));
+    put_device(device);
+}
+
 static void step(lm89_device *device)
 {
     uint8_t record[LM89_RECORD_BYTES];
@@ -245,6 +251,7 @@ static void answer(lm89_reader *reader, lm89_device *device)
     case 'F': feed(reader); break;
     case 'E': put_byte(lm89_finish(*reader)); break;
     case 'D': *device = get_device(); break;
+    case 'P': power_on(device); break;
     case 'S': step(device); break;
     case 'W': write_event(); break;
     case 'H': write_header(); break;

@@ -111,6 +111,12 @@ static void call_device(const uint8_t *dump)
     put(dump, DEVICE_BYTES);
 }
 
+static void call_power_on(uint8_t variant)
+{
+    put("P", 1);
+    put(&variant, 1);
+}
+
 static void call_step(record event)
 {
     uint8_t bytes[] = { 'S', event.kind, event.a, event.b, event.c };
@@ -730,8 +736,7 @@ static void theme_device(void)
     bench b;
     for (unsigned sequence = 0; sequence < 120; sequence++) {
         start(&b, (uint8_t)(1 + sequence % 3));
-        power_on_device(dump, b.variant);
-        call_device(dump);
+        call_power_on(b.variant);
         for (unsigned i = 0; i < 500; i++)
             step(next_record(&b));
     }
@@ -858,6 +863,10 @@ static void every_low_byte(const uint8_t *dump)
 static void theme_device_ranges(void)
 {
     uint8_t dump[DEVICE_BYTES];
+    for (unsigned variant = 0; variant < 256; variant++) {
+        call_power_on((uint8_t)variant);
+        call_step((record){ READ, variant == 1 ? 0x4C : 0x4D, 0xFF, 0 });
+    }
     for (unsigned variant = 1; variant <= 3; variant++) {
         power_on_device(dump, (uint8_t)variant);
         device_edges(dump, step_on);
