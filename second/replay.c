@@ -135,23 +135,14 @@ static void put_device(const second_device *device)
     put(dump, sizeof dump);
 }
 
-static void get_device(second_device *device)
-{
-    uint8_t dump[DEVICE_DUMP];
-    get(dump, sizeof dump);
-    load_device(device, dump);
-}
-
 static uint32_t number_at(const uint8_t *bytes)
 {
     return (uint32_t)bytes[0] << 24 | (uint32_t)bytes[1] << 16 |
            (uint32_t)bytes[2] << 8 | bytes[3];
 }
 
-static void get_reader(second_reader *reader)
+static void load_reader(second_reader *reader, const uint8_t *dump)
 {
-    uint8_t dump[READER_DUMP];
-    get(dump, sizeof dump);
     memset(reader, 0, sizeof *reader);
     reader->header = dump[0];
     reader->count = number_at(dump + 1);
@@ -198,6 +189,20 @@ static uint8_t *lend(uint32_t size)
 
 /* ---- Calls ------------------------------------------------------------- */
 
+static void call_fresh(second_reader *reader)
+{
+    second_fresh(reader);
+    put_byte('N');
+}
+
+static void call_set_reader(second_reader *reader)
+{
+    uint8_t dump[READER_DUMP];
+    get(dump, sizeof dump);
+    load_reader(reader, dump);
+    put_byte('R');
+}
+
 static void call_feed(second_reader *reader)
 {
     uint32_t length = get_number(2);
@@ -214,6 +219,20 @@ static void call_feed(second_reader *reader)
     put_reader(reader);
     free(answers);
     free(input);
+}
+
+static void call_finish(const second_reader *reader)
+{
+    put_byte('E');
+    put_byte(second_finish(reader));
+}
+
+static void call_set_device(second_device *device)
+{
+    uint8_t dump[DEVICE_DUMP];
+    get(dump, sizeof dump);
+    load_device(device, dump);
+    put_byte('D');
 }
 
 static void call_power_on(second_device *device)
@@ -293,6 +312,47 @@ static void call_run(void)
     free(input);
 }
 
+static void answer(second_reader *reader, second_device *device)
+{
+    switch (command) {
+    case 'N':
+        call_fresh(reader);
+        break;
+    case 'R':
+        call_set_reader(reader);
+        break;
+    case 'F':
+        call_feed(reader);
+        break;
+    case 'E':
+        call_finish(reader);
+        break;
+    case 'D':
+        call_set_device(device);
+        break;
+    case 'P':
+        call_power_on(device);
+        break;
+    case 'S':
+        call_step(device);
+        break;
+    case 'W':
+        call_write_event();
+        break;
+    case 'H':
+        call_write_header();
+        break;
+    case 'B':
+        call_decode();
+        break;
+    case 'C':
+        call_run();
+        break;
+    default:
+        refuse("unknown command,", (unsigned long)command, command_at);
+    }
+}
+
 int main(void)
 {
     static char in_buffer[1 << 20];
@@ -304,54 +364,10 @@ int main(void)
     setvbuf(stdout, out_buffer, _IOFBF, sizeof out_buffer);
     memset(&reader, 0, sizeof reader);
     memset(&device, 0, sizeof device);
-
-    for (;;) {
-        command = getc(stdin);
-        if (command == EOF)
-            break;
+    while ((command = getc(stdin)) != EOF) {
         command_at = offset;
         offset++;
-        switch (command) {
-        case 'N':
-            second_fresh(&reader);
-            put_byte('N');
-            break;
-        case 'R':
-            get_reader(&reader);
-            put_byte('R');
-            break;
-        case 'F':
-            call_feed(&reader);
-            break;
-        case 'E':
-            put_byte('E');
-            put_byte(second_finish(&reader));
-            break;
-        case 'D':
-            get_device(&device);
-            put_byte('D');
-            break;
-        case 'P':
-            call_power_on(&device);
-            break;
-        case 'S':
-            call_step(&device);
-            break;
-        case 'W':
-            call_write_event();
-            break;
-        case 'H':
-            call_write_header();
-            break;
-        case 'B':
-            call_decode();
-            break;
-        case 'C':
-            call_run();
-            break;
-        default:
-            refuse("unknown command,", (unsigned long)command, command_at);
-        }
+        answer(&reader, &device);
     }
     if (ferror(stdin)) {
         fprintf(stderr, "replay: stream cannot be read at byte offset %llu\n",
