@@ -6,8 +6,8 @@ WRITABLE = bytes.fromhex("090A0B0C0D0E0F11121314192021BF")
 SETTINGS = bytes.fromhex("090A0B0C0D0E11121314192021BF")
 KEPT = bytes.fromhex("D5FFFFFFFFFFFFE0E0E0FFFF1F07")
 STANDBY = 0x40
+DROPPED = bytes(0xFF - kept for kept in KEPT)
 OUTSIDE = sorted(set(range(256)) - set(READABLE) - set(WRITABLE))
-DROPPING = [i for i in range(14) if KEPT[i] != 0xFF]
 
 
 def remote_reading(device):
@@ -47,7 +47,7 @@ def device_faults(device):
         faults.append("live byte")
     if device[2] and not device[11] & STANDBY:
         faults.append("one-shot pending, D6 of 09")
-    return faults + [f"setting {SETTINGS[i]:02X}" for i in DROPPING if device[11 + i] & ~KEPT[i]]
+    return faults + [f"setting {address:02X}" for address, byte, dropped in zip(SETTINGS, device[11:], DROPPED) if byte & dropped]
 
 
 def told(value, fits):
@@ -61,11 +61,11 @@ def need(table):
             table.need(f"{name}: {field} {told(value, fits)}")
         table.need_all(f"{name}: pointer in range, each of R and W", READABLE + WRITABLE)
         table.need_all(f"{name}: pointer out of range, each other byte", OUTSIDE)
-        for i in DROPPING:
-            dropped = [1 << bit for bit in range(8) if not KEPT[i] & 1 << bit]
-            table.need_all(f"{name}: setting {SETTINGS[i]:02X} with one dropped bit, each", dropped)
-        for i in range(14):
-            table.need(f"{name}: setting {SETTINGS[i]:02X} with every kept bit, in range")
+        for address, dropped in zip(SETTINGS, DROPPED):
+            if dropped:
+                bits = [1 << bit for bit in range(8) if dropped & 1 << bit]
+                table.need_all(f"{name}: setting {address:02X} with one dropped bit, each", bits)
+            table.need(f"{name}: setting {address:02X} with every kept bit, in range")
     for value, fits in VARIANT_ENDS:
         table.need(f"step: variant {told(value, fits)}")
     for name in ("feed", "finish"):
@@ -102,9 +102,9 @@ def see_device(table, name, device, faults, code):
             table.count(f"{name}: {field} {told(value, fits)}")
     if code != 8:
         table.count_value(f"{name}: pointer in range, each of R and W", device[1])
-        for i in range(14):
-            if device[11 + i] == KEPT[i]:
-                table.count(f"{name}: setting {SETTINGS[i]:02X} with every kept bit, in range")
+        for address, byte, kept in zip(SETTINGS, device[11:], KEPT):
+            if byte == kept:
+                table.count(f"{name}: setting {address:02X} with every kept bit, in range")
     elif faults == ["pointer"]:
         table.count_value(f"{name}: pointer out of range, each other byte", device[1])
     elif len(faults) == 1 and faults[0].startswith("setting"):
