@@ -8,14 +8,16 @@
  *                                       the room, reader dump
  *   E                                   finish: code
  *   D  device dump                      set the device
- *   S  kind, x, y, z                    step: code, two answer bytes, device dump
- *   W  kind, x, y, z, room 2            write event: code, the room
+ *   P  variant                          set the device by power-on: device dump
+ *   S  four bytes                       step: code, two answer bytes, device dump
+ *   W  four bytes, room 2               write event: code, the room
  *   H  variant, count 4, room 2         write header: code, the room
  *   B  four bytes                       decode: code, kind, three operands
  *   C  length 4, room 4, bytes          run: result 8, the room
  *
- * Status 1 with a message on an unknown command, a kind outside 1 to 7 in S or
- * W, a capture or room above 1,000,000 in C, or a stream cut inside a call. */
+ * The four bytes of S, W and B are a record's, and may be any bytes.  Status 1
+ * with a message on an unknown command, a capture or room above 1,000,000 in C,
+ * or a stream cut inside a call. */
 #include "second.h"
 
 #include <stdio.h>
@@ -133,23 +135,14 @@ static void put_device(const second_device *device)
     put(dump, sizeof dump);
 }
 
-static void get_device(second_device *device)
-{
-    uint8_t dump[DEVICE_DUMP];
-    get(dump, sizeof dump);
-    load_device(device, dump);
-}
-
 static uint32_t number_at(const uint8_t *bytes)
 {
     return (uint32_t)bytes[0] << 24 | (uint32_t)bytes[1] << 16 |
            (uint32_t)bytes[2] << 8 | bytes[3];
 }
 
-static void get_reader(second_reader *reader)
+static void load_reader(second_reader *reader, const uint8_t *dump)
 {
-    uint8_t dump[READER_DUMP];
-    get(dump, sizeof dump);
     memset(reader, 0, sizeof *reader);
     reader->header = dump[0];
     reader->count = number_at(dump + 1);
@@ -173,11 +166,8 @@ static void put_reader(const second_reader *reader)
 
 static second_event get_event(void)
 {
-    uint64_t at = offset;
-    uint8_t bytes[4];
-    get(bytes, 4);
-    if (bytes[0] < SECOND_WRITE || bytes[0] > SECOND_POWER_ON)
-        refuse("kind outside 1 to 7,", bytes[0], at);
+    uint8_t bytes[SECOND_RECORD_BYTES];
+    get(bytes, sizeof bytes);
     second_event event = { bytes[0], bytes[1], bytes[2], bytes[3] };
     return event;
 }
@@ -199,6 +189,20 @@ static uint8_t *lend(uint32_t size)
 
 /* ---- Calls ------------------------------------------------------------- */
 
+static void call_fresh(second_reader *reader)
+{
+    second_fresh(reader);
+    put_byte('N');
+}
+
+static void call_set_reader(second_reader *reader)
+{
+    uint8_t dump[READER_DUMP];
+    get(dump, sizeof dump);
+    load_reader(reader, dump);
+    put_byte('R');
+}
+
 static void call_feed(second_reader *reader)
 {
     uint32_t length = get_number(2);
@@ -215,6 +219,27 @@ static void call_feed(second_reader *reader)
     put_reader(reader);
     free(answers);
     free(input);
+}
+
+static void call_finish(const second_reader *reader)
+{
+    put_byte('E');
+    put_byte(second_finish(reader));
+}
+
+static void call_set_device(second_device *device)
+{
+    uint8_t dump[DEVICE_DUMP];
+    get(dump, sizeof dump);
+    load_device(device, dump);
+    put_byte('D');
+}
+
+static void call_power_on(second_device *device)
+{
+    second_power_on(device, (uint8_t)get_number(1));
+    put_byte('P');
+    put_device(device);
 }
 
 static void call_step(second_device *device)
@@ -287,6 +312,47 @@ static void call_run(void)
     free(input);
 }
 
+static void answer(second_reader *reader, second_device *device)
+{
+    switch (command) {
+    case 'N':
+        call_fresh(reader);
+        break;
+    case 'R':
+        call_set_reader(reader);
+        break;
+    case 'F':
+        call_feed(reader);
+        break;
+    case 'E':
+        call_finish(reader);
+        break;
+    case 'D':
+        call_set_device(device);
+        break;
+    case 'P':
+        call_power_on(device);
+        break;
+    case 'S':
+        call_step(device);
+        break;
+    case 'W':
+        call_write_event();
+        break;
+    case 'H':
+        call_write_header();
+        break;
+    case 'B':
+        call_decode();
+        break;
+    case 'C':
+        call_run();
+        break;
+    default:
+        refuse("unknown command,", (unsigned long)command, command_at);
+    }
+}
+
 int main(void)
 {
     static char in_buffer[1 << 20];
@@ -298,51 +364,10 @@ int main(void)
     setvbuf(stdout, out_buffer, _IOFBF, sizeof out_buffer);
     memset(&reader, 0, sizeof reader);
     memset(&device, 0, sizeof device);
-
-    for (;;) {
-        command = getc(stdin);
-        if (command == EOF)
-            break;
+    while ((command = getc(stdin)) != EOF) {
         command_at = offset;
         offset++;
-        switch (command) {
-        case 'N':
-            second_fresh(&reader);
-            put_byte('N');
-            break;
-        case 'R':
-            get_reader(&reader);
-            put_byte('R');
-            break;
-        case 'F':
-            call_feed(&reader);
-            break;
-        case 'E':
-            put_byte('E');
-            put_byte(second_finish(&reader));
-            break;
-        case 'D':
-            get_device(&device);
-            put_byte('D');
-            break;
-        case 'S':
-            call_step(&device);
-            break;
-        case 'W':
-            call_write_event();
-            break;
-        case 'H':
-            call_write_header();
-            break;
-        case 'B':
-            call_decode();
-            break;
-        case 'C':
-            call_run();
-            break;
-        default:
-            refuse("unknown command,", (unsigned long)command, command_at);
-        }
+        answer(&reader, &device);
     }
     if (ferror(stdin)) {
         fprintf(stderr, "replay: stream cannot be read at byte offset %llu\n",

@@ -186,13 +186,14 @@ static inline uint8_t low_byte(int remote)
 void second_power_on(second_device *device, uint8_t variant)
 {
     memset(device, 0, sizeof *device);
+    if (!variant_known(variant))
+        return;
     device->variant = variant;
     device->settings[SET_RATE] = 8;
     device->settings[SET_LOCAL_HIGH] = 70;
     device->settings[SET_REMOTE_HIGH] = 70;
     device->settings[SET_REMOTE_CRIT] = 110;
-    device->settings[SET_LOCAL_CRIT] =
-        variant_known(variant) ? part[variant].local_crit : 85;
+    device->settings[SET_LOCAL_CRIT] = part[variant].local_crit;
     device->settings[SET_HYSTERESIS] = 10;
 }
 
@@ -463,22 +464,6 @@ static inline uint8_t judge(second_event record)
     return SECOND_OK;
 }
 
-/* The four bytes of an event's record: the places its kind has no operand for
- * are those that must be 0 in all their bits. */
-static inline second_event as_record(second_event event)
-{
-    if (kind_known(event.kind)) {
-        const uint8_t *zero = must_be_zero[event.kind];
-        if (zero[0] == 0xFF)
-            event.a = 0;
-        if (zero[1] == 0xFF)
-            event.b = 0;
-        if (zero[2] == 0xFF)
-            event.c = 0;
-    }
-    return event;
-}
-
 uint8_t second_decode(const uint8_t record[SECOND_RECORD_BYTES], second_event *event)
 {
     static const second_event none = { 0, 0, 0, 0 };
@@ -490,9 +475,9 @@ uint8_t second_decode(const uint8_t record[SECOND_RECORD_BYTES], second_event *e
 
 uint8_t second_write_event(second_event event, uint8_t *out, size_t room)
 {
-    event = as_record(event);
-    if (judge(event) != SECOND_OK)
-        return SECOND_OPERAND;
+    uint8_t code = judge(event);
+    if (code != SECOND_OK)
+        return code;
     if (room < SECOND_RECORD_BYTES)
         return SECOND_ROOM;
     out[0] = event.kind;
@@ -519,12 +504,11 @@ uint8_t second_write_header(uint8_t variant, uint32_t count, uint8_t *out, size_
 
 second_step_result second_step(second_device *device, second_event event)
 {
-    second_step_result result = { SECOND_OK, 0, 0 };
+    second_step_result result = { SECOND_STATE, 0, 0 };
     if (!second_device_in_range(device))
-        result.code = SECOND_STATE;
-    else if (judge(as_record(event)) != SECOND_OK)
-        result.code = SECOND_OPERAND;
-    else
+        return result;
+    result.code = judge(event);
+    if (result.code == SECOND_OK)
         apply(device, event, &result.first, &result.second);
     return result;
 }

@@ -1,6 +1,6 @@
-/* Second implementation of document 01 (01-scope.md), written from its words
- * and the two datasheets alone.  The core: no allocation, no changing globals,
- * every function total. */
+/* Second implementation of document 01 (01-scope.md), written from its words,
+ * the two datasheets and the comments of lm89.h alone.  The core: no allocation,
+ * no changing globals, every function total. */
 #ifndef SECOND_H
 #define SECOND_H
 
@@ -64,15 +64,16 @@ typedef struct second_reader {
     second_device device;
 } second_reader;
 
-/* An event has only the operands its kind names; the others are ignored.
+/* An event as the four bytes of its record, which may be any bytes: the calls
+ * that take one refuse what is not in this table.
  *   kind               a        b            c
  *   1 write            address  register     value
- *   2 read             address  register     -
- *   3 send             address  register     -
- *   4 receive          address  -            -
- *   5 conversion       local    remote high  remote low
- *   6 open conversion  local    -            -
- *   7 power-on         -        -            -            */
+ *   2 read             address  register     0
+ *   3 send             address  register     0
+ *   4 receive          address  0            0
+ *   5 conversion       local    remote high  remote low, a multiple of 32
+ *   6 open conversion  local    0            0
+ *   7 power-on         0        0            0            */
 typedef struct second_event {
     uint8_t kind;
     uint8_t a;
@@ -81,7 +82,7 @@ typedef struct second_event {
 } second_event;
 
 typedef struct second_step_result {
-    uint8_t code;        /* 8, 4 or 0 */
+    uint8_t code;        /* 8, 3, 4 or 0 */
     uint8_t first;       /* pins, acknowledged, taken */
     uint8_t second;      /* the byte read, or 0 */
 } second_step_result;
@@ -98,16 +99,18 @@ bool second_device_in_range(const second_device *device);
 /* True if the reader state is within the ranges of "Codes of the reader". */
 bool second_reader_in_range(const second_reader *reader);
 
-/* The device as after power-on; its variant is the one given, whatever it is. */
+/* The device as after power-on; all zeros if the variant is not 1 to 3. */
 void second_power_on(second_device *device, uint8_t variant);
 
-/* Step the device where it stands: 8, then 4 (nothing changed, answers 0), or 0. */
+/* Step the device where it stands: 8, then 3, then 4 (nothing changed, answers
+ * 0), or 0. */
 second_step_result second_step(second_device *device, second_event event);
 
 /* Four bytes to an event: 3, then 4 (the event all 0), or 0. */
 uint8_t second_decode(const uint8_t record[SECOND_RECORD_BYTES], second_event *event);
 
-/* An event to the front of a buffer: 4, then 7 (nothing written), or 0. */
+/* An event's record to the front of a buffer: 3, then 4, then 7 (nothing
+ * written), or 0. */
 uint8_t second_write_event(second_event event, uint8_t *out, size_t room);
 
 /* A header to the front of a buffer: 2, then 7 (nothing written), or 0. */

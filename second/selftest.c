@@ -125,36 +125,69 @@ static void scripts(void)
            RD(1, 4, 2), WR(0xBF, 6, 4), WR(0x0A, 0, 4), CV(0, 3, 0x60, 8), RD(1, 4, 3));
 }
 
-static void refusals(void)
+static const uint8_t untouched[8] = { 0xA5, 0xA5, 0xA5, 0xA5, 0xA5, 0xA5, 0xA5, 0xA5 };
+
+/* A record that decoder, step and writer refuse alike, whatever the room. */
+static void refused(const uint8_t record[4], uint8_t code)
 {
+    second_event event = { record[0], record[1], record[2], record[3] };
+    second_event decoded;
+    second_device device, before;
     uint8_t out[8];
-    second_event event;
+    CHECK(second_decode(record, &decoded) == code);
+    CHECK((decoded.kind | decoded.a | decoded.b | decoded.c) == 0);
+    memset(&device, 0, sizeof device);
+    CHECK(second_step(&device, event).code == 8);
+    second_power_on(&device, 1);
+    before = device;
+    second_step_result step = second_step(&device, event);
+    CHECK(step.code == code && step.first == 0 && step.second == 0);
+    CHECK(memcmp(&device, &before, sizeof device) == 0);
+    memcpy(out, untouched, sizeof out);
+    for (size_t room = 0; room <= sizeof out; room++)
+        CHECK(second_write_event(event, out, room) == code);
+    CHECK(memcmp(out, untouched, sizeof out) == 0);
+}
+
+static void records(void)
+{
     static const uint8_t bad[][4] = {
         { 1, 0x80, 0, 0 }, { 2, 0x80, 0, 0 }, { 2, 0, 0, 1 }, { 3, 0x80, 0, 0 }, { 3, 0, 0, 1 },
         { 4, 0x80, 0, 0 }, { 4, 0, 1, 0 }, { 4, 0, 0, 1 }, { 5, 0, 0, 1 }, { 5, 0, 0, 16 },
         { 6, 0, 1, 0 }, { 6, 0, 0, 1 }, { 7, 1, 0, 0 }, { 7, 0, 1, 0 }, { 7, 0, 0, 1 }
     };
+    static const uint8_t unknown[][4] = {
+        { 0, 0, 0, 0 }, { 0, 0xFF, 1, 1 }, { 8, 0, 0, 0 }, { 8, 0xFF, 0xFF, 0xFF }, { 9, 0, 0, 0 },
+        { 0x81, 0x4C, 0, 0 }, { 255, 0, 0, 0 }
+    };
+    uint8_t out[8];
     for (size_t i = 0; i < sizeof bad / sizeof *bad; i++)
-        CHECK(second_decode(bad[i], &event) == 4 && event.kind == 0);
-    CHECK(second_decode((const uint8_t[]){ 0, 0xFF, 1, 1 }, &event) == 3);
-    CHECK(second_decode((const uint8_t[]){ 8, 0, 0, 0 }, &event) == 3);
-
-    memset(out, 0xA5, sizeof out);
-    CHECK(second_write_event((second_event){ 1, 0x80, 0, 0 }, out, 0) == 4);
-    CHECK(second_write_event((second_event){ 4, 0x7F, 9, 9 }, out, 3) == 7 && out[0] == 0xA5);
-    CHECK(second_write_event((second_event){ 4, 0x7F, 9, 9 }, out, 8) == 0);
+        refused(bad[i], 4);
+    for (size_t i = 0; i < sizeof unknown / sizeof *unknown; i++)
+        refused(unknown[i], 3);
+    memcpy(out, untouched, sizeof out);
+    CHECK(second_write_event((second_event){ 4, 0x7F, 0, 0 }, NULL, 0) == 7);
+    CHECK(second_write_event((second_event){ 4, 0x7F, 0, 0 }, out, 3) == 7 && out[0] == 0xA5);
+    CHECK(second_write_event((second_event){ 4, 0x7F, 0, 0 }, out, 8) == 0);
     CHECK(memcmp(out, "\x04\x7F\x00\x00\xA5\xA5\xA5\xA5", 8) == 0);
-    memset(out, 0xA5, sizeof out);
+}
+
+static void refusals(void)
+{
+    uint8_t out[8];
+    memcpy(out, untouched, sizeof out);
     CHECK(second_write_header(0, 1, out, 8) == 2 && second_write_header(4, 1, out, 0) == 2);
     CHECK(second_write_header(1, 1, out, 5) == 7 && out[0] == 0xA5);
     CHECK(second_write_header(3, 0x01020304, out, 8) == 0);
     CHECK(memcmp(out, "\x01\x03\x01\x02\x03\x04\xA5\xA5", 8) == 0);
 
-    second_device device;
-    memset(&device, 0, sizeof device);
-    CHECK(second_step(&device, (second_event){ 1, 0x80, 0, 0 }).code == 8);
+    second_device device, zeros;
+    memset(&zeros, 0, sizeof zeros);
+    for (unsigned variant = 4; variant <= 256; variant++) {
+        second_power_on(&device, (uint8_t)variant); /* 256 is 0 */
+        CHECK(memcmp(&device, &zeros, sizeof device) == 0);
+    }
     second_power_on(&device, 1);
-    CHECK(second_step(&device, (second_event){ 1, 0x80, 0, 0 }).code == 4);
     device.pending = true;
     CHECK(second_step(&device, (second_event){ 7, 0, 0, 0 }).code == 8);
     device.settings[0] = 0x40;
@@ -186,24 +219,34 @@ static uint32_t next(uint32_t below)
 
 enum { RECORDS = 12, MOST = 6 + 4 * RECORDS + 2 };
 
-static size_t make_capture(uint8_t *capture)
+static second_event any_event(void)
 {
     static const uint8_t registers[] = { 0, 1, 2, 2, 2, 3, 9, 9, 9, 0x0B, 0x0C, 0x0D, 0x0E, 0x0F,
         0x0F, 0x10, 0x11, 0x12, 0x13, 0x14, 0x19, 0x20, 0x21, 0xBF, 0xBF, 0xFE, 0xFF, 0x30 };
+    second_event event = { (uint8_t)(1 + next(7)), 0, 0, 0 };
+    if (event.kind <= SECOND_RECEIVE)
+        event.a = (uint8_t)(0x4C + next(2));
+    if (event.kind == SECOND_RECEIVE && next(2) == 0)
+        event.a = 0x0C;
+    if (event.kind <= SECOND_SEND)
+        event.b = registers[next(sizeof registers)];
+    if (event.kind == SECOND_WRITE)
+        event.c = (uint8_t)next(256);
+    if (event.kind == SECOND_CONVERSION || event.kind == SECOND_CONVERSION_OPEN)
+        event.a = (uint8_t)next(256);
+    if (event.kind == SECOND_CONVERSION) {
+        event.b = (uint8_t)next(256);
+        event.c = (uint8_t)(32 * next(8));
+    }
+    return event;
+}
+
+static size_t make_capture(uint8_t *capture)
+{
     size_t n = next(RECORDS + 1);
     second_write_header((uint8_t)(1 + next(3)), (uint32_t)n, capture, MOST);
-    for (size_t i = 0; i < n; i++) {
-        second_event event = { (uint8_t)(1 + next(7)), (uint8_t)(0x4C + next(2)), 0, (uint8_t)next(256) };
-        event.b = registers[next(sizeof registers)];
-        if (event.kind == SECOND_RECEIVE && next(2) == 0)
-            event.a = 0x0C;
-        if (event.kind >= SECOND_CONVERSION) {
-            event.a = (uint8_t)next(256);
-            event.b = (uint8_t)next(256);
-            event.c &= 0xE0;
-        }
-        CHECK(second_write_event(event, capture + 6 + 4 * i, 4) == 0);
-    }
+    for (size_t i = 0; i < n; i++)
+        CHECK(second_write_event(any_event(), capture + 6 + 4 * i, 4) == 0);
     size_t length = 6 + 4 * n;
     if (next(3) == 0) /* too short, too long, or a bad byte somewhere */
         length = next((uint32_t)length + 1);
@@ -262,7 +305,8 @@ static void anything(void)
         for (size_t i = 0; i < 3; i++)
             reader.carry[i] = i < reader.carried ? (uint8_t)next(9) : 0;
         reader.held = (uint8_t)(next(2) ? 0 : next(8));
-        second_power_on(&reader.device, (uint8_t)next(5));
+        second_power_on(&reader.device, (uint8_t)(1 + next(3)));
+        reader.device.variant = (uint8_t)next(5);
         if (next(2)) {
             reader.device.pointer = (uint8_t)next(256);
             reader.device.status = (uint8_t)next(256);
@@ -281,7 +325,7 @@ static void anything(void)
         CHECK((fed.code == 8) == (second_finish(&reader) == 8));
         second_step_result step = second_step(&before.device,
             (second_event){ (uint8_t)next(9), input[0], input[1], input[2] });
-        CHECK(step.code == 0 || step.code == 4 || step.code == 8);
+        CHECK(step.code == 0 || step.code == 3 || step.code == 4 || step.code == 8);
         CHECK(step.code == 8 || second_device_in_range(&before.device));
     }
 }
@@ -289,6 +333,7 @@ static void anything(void)
 int main(void)
 {
     scripts();
+    records();
     refusals();
     cuts();
     anything();

@@ -1,21 +1,20 @@
 #!/usr/bin/env bash
 # The second program held to the proved one, call for call: streams of calls with fixed seeds (tests/compare/streams.c) go through
-# second/replay.c and through the replay program over the model, and what both write is compared byte for byte; the streams of
-# steps and whole captures also go through the C library, and captures through both listing programs. Prints what was covered and
-# the lines of second/second.c that were not reached; exits non-zero at the first failure. Needs what tests/bench.sh leaves in
-# build/. All its files are in build/compare. 'tests/compare.sh COMMAND' takes that command in the place of the replay program.
+# second/replay.c and through the C library (tests/compare/library.c), and what both write is compared byte for byte; captures also
+# go through second/listing.c and 'lm89 list'. Prints what was covered and the lines of second/second.c that were not reached;
+# exits non-zero at the first failure. Needs what tests/bench.sh leaves in build/. All its files are in build/compare.
+# 'tests/compare.sh COMMAND' takes that command in the place of the library program.
 set -euo pipefail
 cd "$(dirname "$0")/.."
 source scripts/machine.sh
 
 here=build/compare
-strict=(-std=c11 -O2 -Wall -Wextra -Werror -pedantic)
-both=(device device-ranges runs listed)
-all=("${both[@]}" reader reader-ranges writer)
-both_streams=("${both[@]/#/$here/}")
-both_streams=("${both_streams[@]/%/.stream}")
-all_streams=("${all[@]/#/$here/}")
-all_streams=("${all_streams[@]/%/.stream}")
+strict=(-std=c11 -Wall -Wextra -Werror -pedantic)
+# One build of second/ for both: what the sanitizers see, and the lines that are reached, which gcov counts by gcc.
+watched=(gcc "${strict[@]}" -fsanitize=address,undefined -fno-sanitize-recover=all --coverage)
+themes=(device device-ranges runs listed reader reader-ranges writer)
+streams=("${themes[@]/#/$here/}")
+streams=("${streams[@]/%/.stream}")
 lines_least=99
 export ASAN_OPTIONS=detect_leaks=0
 export PYTHONPYCACHEPREFIX=$PWD/$here/pycache
@@ -34,41 +33,23 @@ command_of() {
     fi
 }
 
-# The replay program over the model, or what is given in its place.
-model() {
-    if [ $# -gt 0 ]; then
-        printf '%s' "$1"
-    else
-        [ -x target/bin/replay ] || rt check replay >"$here/replay.log" 2>&1 || {
-            cat "$here/replay.log" >&2
-            return 1
-        }
-        command_of target/bin/replay
-    fi
-}
-
-make_programs() {
+make_streams() {
     cc "${strict[@]}" -o "$here/streams" tests/compare/streams.c
-    cc "${strict[@]}" -fsanitize=address,undefined -fno-sanitize-recover=all -o "$here/second" second/second.c second/replay.c
-    cc "${strict[@]}" -o "$here/second-listing" second/second.c second/listing.c
-    compile_link "$here/library" tests/compare/library.c || stop "tests/compare/library.c does not compile or link, see above"
-    for theme in "${all[@]}"; do
+    for theme in "${themes[@]}"; do
         "$here/streams" "$theme" >"$here/$theme.stream" || stop "the stream $theme could not be written"
     done
 }
 
+make_second() {
+    rm -f "$here"/*.gcda
+    "${watched[@]}" -c -o "$here/second.o" second/second.c
+    "${watched[@]}" -o "$here/second" "$here/second.o" second/replay.c
+    "${watched[@]}" -o "$here/second-listing" "$here/second.o" second/listing.c
+}
+
 # The lines of second/second.c that these streams and listings reach.
 measure_lines() {
-    rm -f "$here"/measured.*
-    gcc -std=c11 -O0 --coverage -c -o "$here/measured.o" second/second.c
-    gcc -std=c11 --coverage -o "$here/measured-replay" "$here/measured.o" second/replay.c -Isecond
-    gcc -std=c11 --coverage -o "$here/measured-listing" "$here/measured.o" second/listing.c -Isecond
-    for theme in "${all[@]}"; do
-        "$here/measured-replay" <"$here/$theme.stream" | cmp - "$here/$theme.stream.results" ||
-            stop "$theme: second/ gives other results without optimisation"
-    done
-    python3 tests/compare/listings.py "$here/second-listing" "$here/measured-listing" "$here/listed.stream"
-    gcov --stdout --object-file "$here/measured.o" second/second.c >"$here/second.c.gcov" 2>"$here/gcov.log" || {
+    gcov --stdout --object-file "$here/second.o" second/second.c >"$here/second.c.gcov" 2>"$here/gcov.log" || {
         cat "$here/gcov.log"
         stop "gcov failed, see above"
     }
@@ -83,16 +64,20 @@ measure_lines() {
 }
 
 mkdir -p "$here"
-replay=$(model "$@") || stop "the replay program over the model is not proved, see above"
-make_programs
-printf 'second/ and %s:\n' "$replay"
-python3 tests/compare/compare.py "$here/second" "$replay" "${all_streams[@]}" ||
-    stop "second/ and the replay program disagree, see above: document 01 says which is wrong"
-printf 'second/ and the C library:\n'
-python3 tests/compare/compare.py "$here/second" "$(command_of "$here/library")" "${both_streams[@]}" ||
-    stop "second/ and the C library disagree, see above: document 01 says which is wrong"
-python3 tests/compare/listings.py "$here/second-listing" build/bin/lm89-listing "$here/listed.stream" ||
-    stop "the two listing programs disagree, see above: document 01 says which is wrong"
-python3 tests/compare/covered.py "${all_streams[@]}" ||
+make_streams &
+make_second
+wait "$!"
+if [ $# -gt 0 ]; then
+    other=$1
+else
+    compile_link "$here/library" tests/compare/library.c || stop "tests/compare/library.c does not compile or link, see above"
+    other=$(command_of "$here/library")
+fi
+printf 'second/ and %s:\n' "$other"
+python3 tests/compare/compare.py "$here/second" "$other" "${streams[@]}" ||
+    stop "second/ and '$other' disagree, see above: document 01 says which is wrong"
+python3 tests/compare/listings.py "$here/second-listing" 'build/bin/lm89 list' "$here/listed.stream" ||
+    stop "the two listings disagree, see above: document 01 says which is wrong"
+python3 tests/compare/covered.py "${streams[@]}" ||
     stop "something never occurred, see above: add it to tests/compare/streams.c"
 measure_lines

@@ -6,7 +6,7 @@ HEADER_BYTES = 6
 RECORD_BYTES = 4
 
 NAMES = {
-    "N": "fresh reader", "R": "set the reader", "F": "feed", "E": "finish", "D": "set the device",
+    "N": "fresh reader", "R": "set the reader", "F": "feed", "E": "finish", "D": "set the device", "P": "power on",
     "S": "step", "W": "write event", "H": "write header", "B": "decode", "C": "run",
 }
 KINDS = {1: "write", 2: "read", 3: "send", 4: "receive", 5: "conversion", 6: "conversion, diode open", 7: "power-on"}
@@ -21,8 +21,8 @@ READER_FIELDS = [
     ("header bytes taken", 1), ("record count", 4), ("records done", 4), ("record bytes carried", 1), ("carried bytes", 3),
     ("held code", 1),
 ] + DEVICE_FIELDS
-FIXED_CALLS = {78: 1, 82: 1 + READER_BYTES, 69: 1, 68: 1 + DEVICE_BYTES, 83: 5, 87: 7, 72: 8, 66: 5}
-FIXED_RESULTS = {78: 1, 82: 1, 69: 2, 68: 1, 83: 4 + DEVICE_BYTES, 66: 6}
+FIXED_CALLS = {78: 1, 82: 1 + READER_BYTES, 69: 1, 68: 1 + DEVICE_BYTES, 80: 2, 83: 5, 87: 7, 72: 8, 66: 5}
+FIXED_RESULTS = {78: 1, 82: 1, 69: 2, 68: 1, 80: 1 + DEVICE_BYTES, 83: 4 + DEVICE_BYTES, 66: 6}
 
 
 def number(some_bytes):
@@ -130,6 +130,7 @@ def call_words(call):
         "R": lambda: ", ".join(f"{n} {v.hex().upper()}" for n, v in fields(READER_FIELDS, call[1:])),
         "D": lambda: ", ".join(f"{n} {v.hex().upper()}" for n, v in fields(DEVICE_FIELDS, call[1:])),
         "F": lambda: f"room {room(call)}, {len(feed_part(call))} bytes: {hexed(feed_part(call))}",
+        "P": lambda: f"variant {call[1]}",
         "S": lambda: event_words(call[1:5]),
         "W": lambda: f"{event_words(call[1:5])}, room {room(call)}",
         "H": lambda: f"variant {call[1]}, count {number(call[2:6])}, room {room(call)}",
@@ -146,6 +147,8 @@ def result_fields(call, result):
     if command == "F":
         head = [("command", 1), ("code", 1), ("consumed", 4), ("written", 4), ("room", lent)]
         return fields(head + READER_FIELDS, result)
+    if command == "P":
+        return fields([("command", 1)] + DEVICE_FIELDS, result)
     if command == "S":
         return fields([("command", 1), ("code", 1), ("first answer", 1), ("second answer", 1)] + DEVICE_FIELDS, result)
     layouts = {

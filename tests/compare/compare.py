@@ -1,12 +1,14 @@
 #!/usr/bin/env python3
 """compare.py ONE OTHER STREAM...: runs two programs on each stream of calls and compares what they write, byte for byte.
 
-ONE and OTHER are commands in one argument each, as 'build/compare/second' or 'qemu-x86_64 target/bin/replay'. ONE's results are
-left beside each stream as STREAM.results. Where they disagree it prints the first call that differs, what each gave, field by
-field, and the shortest stream it finds that still shows a difference; the exit status is 1. To see one such stream again:
+ONE and OTHER are commands in one argument each, as 'build/compare/second' or 'qemu-x86_64 build/compare/library'; they run at the
+same time. ONE's results are left beside each stream as STREAM.results. Where they disagree it prints the first call that differs,
+what each gave, field by field, and the shortest stream it finds that still shows a difference; the exit status is 1. To see one
+such stream again:
 
     python3 tests/hex.py <shortest.hex >shortest && python3 tests/compare/compare.py ONE OTHER shortest
 """
+import concurrent.futures
 import pathlib
 import shlex
 import subprocess
@@ -28,10 +30,11 @@ class Pair:
 
     def __init__(self, one, other):
         self.programs = (one, other)
+        self.pool = concurrent.futures.ThreadPoolExecutor(len(self.programs))
         self.tries = TRIES_MOST
 
     def outcomes(self, stream):
-        return [outcome(program, stream) for program in self.programs]
+        return list(self.pool.map(lambda program: outcome(program, stream), self.programs))
 
     def disagree(self, parts):
         if self.tries == 0:
@@ -97,16 +100,16 @@ def without_groups(items, size, still):
 
 def state_call(parts, results, at):
     """A call that sets the reader or device as it stands before a call, or None where the call needs none."""
-    setters = {"S": ("D", "S", calls.DEVICE_BYTES), "F": ("R", "F", calls.READER_BYTES), "E": ("R", "F", calls.READER_BYTES)}
+    setters = {"S": ("D", "PS", calls.DEVICE_BYTES), "F": ("R", "F", calls.READER_BYTES), "E": ("R", "F", calls.READER_BYTES)}
     command = chr(parts[at][0])
     if command not in setters:
         return None
-    setter, mover, length = setters[command]
+    setter, movers, length = setters[command]
     for before in range(at - 1, -1, -1):
         earlier = chr(parts[before][0])
         if earlier == setter:
             return parts[before]
-        if earlier == mover:
+        if earlier in movers:
             return setter.encode() + results[before][-length:]
         if earlier == "N" and setter == "R":
             return b"N"

@@ -4,6 +4,8 @@
 Fails, naming it, if anything of the table never occurred, or below 200,000 calls or 1,000,000 records. A record is one that was
 answered: by a step, a feed or a run. What happened is decided from the stream and from the results, which both sides share.
 """
+import collections
+import concurrent.futures
 import pathlib
 import sys
 
@@ -12,23 +14,24 @@ import ranges
 import steps
 from table import Table
 
+AT_ONCE = 2
 CALLS_LEAST = 200_000
 RECORDS_LEAST = 1_000_000
 
 CODES = {
-    "feed": (0, 1, 2, 3, 4, 5, 7, 8), "finish": (0, 1, 2, 3, 4, 5, 6, 8), "step": (0, 4, 8), "write event": (0, 4, 7),
+    "feed": (0, 1, 2, 3, 4, 5, 7, 8), "finish": (0, 1, 2, 3, 4, 5, 6, 8), "step": (0, 3, 4, 8), "write event": (0, 3, 4, 7),
     "write header": (0, 2, 7), "decode": (0, 3, 4), "run": (0, 1, 2, 3, 4, 5, 6, 7),
 }
-# The operands of each kind that the table of kinds restricts: in a record, and in an event, which lacks those that must be 0.
+# The operands of each kind that the table of kinds restricts.
 RESTRICTED = {1: "a", 2: "ac", 3: "ac", 4: "abc", 5: "c", 6: "bc", 7: "abc"}
-RESTRICTED_IN_EVENTS = {1: "a", 2: "a", 3: "a", 4: "a", 5: "c"}
+UNKNOWN_KINDS = (0, 8, 255)
 
 
-def broken_operands(record, restricted):
+def broken_operands(record):
     """The operands of a record that break the table of kinds."""
     kind = record[0]
     broken = ""
-    for operand in restricted.get(kind, ""):
+    for operand in RESTRICTED.get(kind, ""):
         value = record["abc".index(operand) + 1]
         address = operand == "a" and kind <= 4
         bad = value & 0x80 if address else value % 32 if kind == 5 else value
@@ -45,6 +48,7 @@ def need_everything(table):
     for call in ("step", "run", "decode", "write event"):
         for kind, name in calls.KINDS.items():
             table.need(f"{call}: kind {kind} {name}")
+    table.need_all("power on: each byte as the variant", range(256))
     need_refusals(table)
     need_places(table)
     steps.need(table)
@@ -52,18 +56,15 @@ def need_everything(table):
 
 
 def need_refusals(table):
-    for call in ("feed", "run", "decode"):
+    for call in ("feed", "run", "decode", "step", "write event"):
         for kind, operands in RESTRICTED.items():
             for operand in operands:
                 table.need(f"{call}: kind {kind}, operand {operand} broken alone")
-        table.need(f"{call}: kind 0", f"{call}: kind 8", f"{call}: kind 255", f"{call}: 3 before 4")
-    for call in ("step", "write event"):
-        for kind, operands in RESTRICTED_IN_EVENTS.items():
-            table.need(f"{call}: kind {kind}, operand {operands} broken")
-        table.need(f"{call}: places without an operand not 0, ignored")
-    for call in ("feed", "run"):
-        table.need(f"{call}: 3 before 7", f"{call}: 4 before 7", f"{call}: 5 with a count of 0")
-    table.need("write event: 4 before 7", "write header: 2 before 7", "step: 8 before 4")
+        table.need(*(f"{call}: kind {kind}" for kind in UNKNOWN_KINDS), f"{call}: 3 before 4")
+    for call in ("feed", "run", "write event"):
+        table.need(f"{call}: 3 before 7", f"{call}: 4 before 7")
+    table.need("feed: 5 with a count of 0", "run: 5 with a count of 0")
+    table.need("write header: 2 before 7", "step: 8 before 3", "step: 8 before 4")
     for bit, name in enumerate(("ALERT pulled", "T_CRIT_A pulled", "acknowledged", "conversion taken")):
         table.need(f"run: answer D{bit} {name}", f"run: answer D{bit} clear")
 
@@ -77,10 +78,12 @@ def need_places(table):
     for lent in range(6):
         for call in ("feed", "run"):
             table.need(f"{call}: room {lent}, 7 with {lent // 2 * 2} bytes written")
-        table.need(f"write event: room {lent}", f"write header: room {lent}")
+        table.need(f"write header: room {lent}")
+    for lent in (*range(6), "above 5"):
+        table.need(f"write event: room {lent}", f"write event: room {lent}, 3", f"write event: room {lent}, 4")
     for lent in range(2, 6):
         table.need(f"feed: room {lent}, 0 with a record answered")
-    table.need("feed: room above 5, 7", "feed: room above 5, 0", "run: room above 5, 7", "write event: room above 5")
+    table.need("feed: room above 5, 7", "feed: room above 5, 0", "run: room above 5, 7")
     table.need("write header: room 6", "write header: room above 6")
     table.need("after 7: answered", "after 7: 7 again", "after 7: empty part", "after 7: finish gives 6")
     table.need("after 7: another fourth byte refused")
@@ -92,11 +95,11 @@ def need_places(table):
 
 
 class Watcher:
-    """Goes through calls and results, and counts."""
+    """Goes through the calls and results of one stream, and counts."""
 
-    def __init__(self, table):
-        self.table = table
-        self.calls = 0
+    def __init__(self):
+        self.table = Table()
+        need_everything(self.table)
         self.records = 0
         self.by_command = {ord(c): getattr(self, "see_" + n.replace(" ", "_")) for c, n in calls.NAMES.items()}
 
@@ -107,9 +110,10 @@ class Watcher:
         self.no_room = False
         self.steps = steps.Steps(self.table)
         parts = calls.split(stream)
+        self.calls = len(parts)
+        for command, times in collections.Counter(call[0] for call in parts).items():
+            self.table.count(f"call: {calls.NAMES[chr(command)]}", times)
         for call, result in zip(parts, calls.split_results(parts, results)):
-            self.calls += 1
-            self.table.count(f"call: {calls.NAMES[chr(call[0])]}")
             self.by_command[call[0]](call, result)
 
     # ---- The reader ----
@@ -157,7 +161,7 @@ class Watcher:
         self.see_room("feed", calls.room(call), code, written)
         self.see_retry(part, code, consumed, written)
         if code in (3, 4):
-            self.see_refused("feed", code, self.reader[10:13] + part[consumed : consumed + 1], calls.room(call) - written)
+            self.see_refused("feed", code, self.reader[10:13] + part[consumed : consumed + 1], calls.room(call) - written < 2)
         if code == 5 and calls.number(self.reader[1:5]) == 0:
             self.table.count("feed: 5 with a count of 0")
         if code == 7:
@@ -203,16 +207,17 @@ class Watcher:
             self.table.count("after 7: another fourth byte refused")
         self.no_room = code == 7
 
-    def see_refused(self, name, code, record, left):
+    def see_refused(self, name, code, record, no_room=False):
+        """A record that got 3 or 4; with no room it would get 7 if it were right."""
         if code == 3:
-            if record[0] in (0, 8, 255):
+            if record[0] in UNKNOWN_KINDS:
                 self.table.count(f"{name}: kind {record[0]}")
             if record[1:4] == b"\xff\xff\xff":
                 self.table.count(f"{name}: 3 before 4")
-        broken = broken_operands(record, RESTRICTED)
+        broken = broken_operands(record)
         if code == 4 and len(broken) == 1:
             self.table.count(f"{name}: kind {record[0]}, operand {broken} broken alone")
-        if left < 2:
+        if no_room:
             self.table.count(f"{name}: {code} before 7")
 
     def see_run(self, call, result):
@@ -227,7 +232,7 @@ class Watcher:
         self.see_answers(answers[::2])
         at = 6 + 2 * written
         if code in (3, 4):
-            self.see_refused("run", code, capture[at : at + 4], calls.room(call) - written)
+            self.see_refused("run", code, capture[at : at + 4], calls.room(call) - written < 2)
         if code == 5 and calls.number(capture[2:6]) == 0:
             self.table.count("run: 5 with a count of 0")
 
@@ -243,37 +248,36 @@ class Watcher:
     def see_set_the_device(self, call, _result):
         self.steps.set_device(call[1:])
 
+    def see_power_on(self, call, result):
+        self.table.count_value("power on: each byte as the variant", call[1])
+        self.steps.set_device(result[1:])
+
     def see_step(self, call, result):
         code, record = result[1], call[1:5]
         self.table.count(f"step: code {code}")
-        broken = broken_operands(record, RESTRICTED_IN_EVENTS)
         if code == 0:
             self.records += 1
             self.table.count(f"step: kind {record[0]} {calls.KINDS[record[0]]}")
-            self.see_ignored("step", record)
-        if code == 4:
-            self.table.count(f"step: kind {record[0]}, operand {broken} broken")
-        if code == 8 and broken:
+        elif code != 8:
+            self.see_refused("step", code, record)
+        elif record[0] not in calls.KINDS:
+            self.table.count("step: 8 before 3")
+        elif broken_operands(record):
             self.table.count("step: 8 before 4")
         self.steps.see(record, result)
-
-    def see_ignored(self, name, record):
-        if broken_operands(record, RESTRICTED):
-            self.table.count(f"{name}: places without an operand not 0, ignored")
 
     # ---- The writers and the decoder ----
 
     def see_write_event(self, call, result):
         code, record, lent = result[1], call[1:5], calls.room(call)
+        room = f"write event: room {lent if lent < 6 else 'above 5'}"
         self.table.count(f"write event: code {code}")
-        self.table.count(f"write event: room {lent if lent < 6 else 'above 5'}")
+        self.table.count(room)
         if code == 0:
             self.table.count(f"write event: kind {record[0]} {calls.KINDS[record[0]]}")
-            self.see_ignored("write event", record)
-        if code == 4:
-            self.table.count(f"write event: kind {record[0]}, operand {broken_operands(record, RESTRICTED_IN_EVENTS)} broken")
-        if code == 4 and lent < 4:
-            self.table.count("write event: 4 before 7")
+        if code in (3, 4):
+            self.table.count(f"{room}, {code}")
+            self.see_refused("write event", code, record, lent < calls.RECORD_BYTES)
 
     def see_write_header(self, call, result):
         code, lent = result[1], calls.room(call)
@@ -288,26 +292,33 @@ class Watcher:
         if code == 0:
             self.table.count(f"decode: kind {record[0]} {calls.KINDS[record[0]]}")
         else:
-            self.see_refused("decode", code, record, 2)
+            self.see_refused("decode", code, record)
+
+
+def watched(name):
+    """(calls, records, table) of a stream."""
+    watcher = Watcher()
+    watcher.watch(pathlib.Path(name).read_bytes(), pathlib.Path(f"{name}.results").read_bytes())
+    return watcher.calls, watcher.records, watcher.table
 
 
 def main():
+    names = sys.argv[1:]
     table = Table()
     need_everything(table)
-    watcher = Watcher(table)
-    told = []
-    for name in sys.argv[1:]:
-        calls_before, records_before = watcher.calls, watcher.records
-        watcher.watch(pathlib.Path(name).read_bytes(), pathlib.Path(f"{name}.results").read_bytes())
-        told.append(f"{pathlib.Path(name).stem}: {watcher.calls - calls_before} calls, {watcher.records - records_before} records")
+    with concurrent.futures.ProcessPoolExecutor(AT_ONCE) as pool:
+        found = list(pool.map(watched, names))
+    for _, _, counted in found:
+        table.add(counted)
     table.show()
-    for line in told:
-        print(f"covered: {line}")
-    print(f"covered: {watcher.calls} calls, {watcher.records} records, {len(table.counts)} rows")
+    for name, (some_calls, some_records, _) in zip(names, found):
+        print(f"covered: {pathlib.Path(name).stem}: {some_calls} calls, {some_records} records")
+    all_calls, all_records = sum(n for n, _, _ in found), sum(n for _, n, _ in found)
+    print(f"covered: {all_calls} calls, {all_records} records, {len(table.counts)} rows")
     missed = table.missed()
-    if watcher.calls < CALLS_LEAST:
+    if all_calls < CALLS_LEAST:
         missed.append(f"{CALLS_LEAST} calls")
-    if watcher.records < RECORDS_LEAST:
+    if all_records < RECORDS_LEAST:
         missed.append(f"{RECORDS_LEAST} records")
     for name in missed:
         print(f"covered: not reached: {name}")

@@ -1,33 +1,48 @@
-/* Answers a stream of the calls D, S and C, in the format at the head of second/replay.c, by the C library. An event has no
- * operand in some places, where the library's record wants 0: those are given as 0. */
+/* Answers a stream of calls, in the format at the head of second/replay.c, by the C library. Each room lent to it stands between
+ * guard bytes, and an empty room or input is NULL. */
 #include <lm89.h>
 
 #include <stdio.h>
 #include <stdlib.h>
 #include <string.h>
 
-enum { DEVICE_BYTES = 25, SETTINGS = 14, CAPTURE_MOST = 1000000, GUARD = 64, FILL = 0xA5 };
+enum { DEVICE_BYTES = 25, READER_BYTES = 39, LENT_MOST = 1000000, GUARD = 64, FILL = 0xA5 };
 
-static uint8_t capture[CAPTURE_MOST];
-static uint8_t answers[CAPTURE_MOST + GUARD];
+static int command;                /* the call being answered */
+static unsigned long long taken;   /* bytes of the stream taken so far */
+static uint8_t given[LENT_MOST];
+static uint8_t guarded[GUARD + LENT_MOST + GUARD];
+static uint8_t *const lent = guarded + GUARD;
 
 static void stop(const char *what)
 {
-    fprintf(stderr, "library: %s\n", what);
+    fprintf(stderr, "library: %s, in the call %c, %llu bytes into the stream\n", what, command, taken);
     exit(1);
 }
 
+/* ---- The stream -------------------------------------------------------- */
+
 static void get(uint8_t *bytes, size_t length)
 {
-    if (fread(bytes, 1, length, stdin) != length)
-        stop("the stream is cut inside a call");
+    size_t got = fread(bytes, 1, length, stdin);
+    taken += got;
+    if (got != length)
+        stop(ferror(stdin) ? "the stream cannot be read" : "the stream is cut");
 }
 
-static uint32_t get_number(void)
+static uint32_t number_at(const uint8_t *bytes, size_t length)
+{
+    uint32_t number = 0;
+    for (size_t i = 0; i < length; i++)
+        number = number << 8 | bytes[i];
+    return number;
+}
+
+static uint32_t get_number(size_t length)
 {
     uint8_t bytes[4];
-    get(bytes, sizeof bytes);
-    return (uint32_t)bytes[0] << 24 | (uint32_t)bytes[1] << 16 | (uint32_t)bytes[2] << 8 | bytes[3];
+    get(bytes, length);
+    return number_at(bytes, length);
 }
 
 static void put(const uint8_t *bytes, size_t length)
@@ -36,11 +51,58 @@ static void put(const uint8_t *bytes, size_t length)
         stop("cannot write standard output");
 }
 
-static lm89_device get_device(void)
+static void put_byte(uint8_t byte)
 {
-    uint8_t dump[DEVICE_BYTES];
+    put(&byte, 1);
+}
+
+static void put_number(uint64_t number, size_t length)
+{
+    for (size_t i = length; i-- > 0;)
+        put_byte((uint8_t)(number >> 8 * i));
+}
+
+/* ---- Lent memory ------------------------------------------------------- */
+
+static void check_length(uint32_t length)
+{
+    if (length > LENT_MOST)
+        stop("an input or a room is above 1000000 bytes");
+}
+
+static const uint8_t *get_input(uint32_t length)
+{
+    check_length(length);
+    get(given, length);
+    return length > 0 ? given : NULL;
+}
+
+static uint8_t *lend(uint32_t room)
+{
+    check_length(room);
+    memset(guarded, FILL, GUARD + room + GUARD);
+    return room > 0 ? lent : NULL;
+}
+
+static void check_untouched(const uint8_t *bytes, size_t length)
+{
+    for (size_t i = 0; i < length; i++)
+        if (bytes[i] != FILL)
+            stop("bytes are written that may not be");
+}
+
+static void put_room(uint32_t room)
+{
+    check_untouched(guarded, GUARD);
+    check_untouched(lent + room, GUARD);
+    put(lent, room);
+}
+
+/* ---- Dumps ------------------------------------------------------------- */
+
+static lm89_device device_of(const uint8_t *dump)
+{
     lm89_device device = { 0 };
-    get(dump, sizeof dump);
     int remote = dump[5] * 256 + dump[6];
     device.variant = dump[0];
     device.pointer = dump[1];
@@ -52,7 +114,7 @@ static lm89_device get_device(void)
     device.sensed.faults = dump[8];
     device.sensed.llatch = dump[9] != 0;
     device.sensed.rlatch = dump[10] != 0;
-    memcpy(device.settings, dump + 11, SETTINGS);
+    memcpy(device.settings, dump + 11, LM89_SETTINGS);
     return device;
 }
 
@@ -64,58 +126,150 @@ static void put_device(const lm89_device *device)
         (uint8_t)(remote >> 8), (uint8_t)(remote & 0xFF), device->sensed.live, device->sensed.faults,
         device->sensed.llatch, device->sensed.rlatch
     };
-    memcpy(dump + 11, device->settings, SETTINGS);
+    memcpy(dump + 11, device->settings, LM89_SETTINGS);
     put(dump, sizeof dump);
+}
+
+static lm89_device get_device(void)
+{
+    uint8_t dump[DEVICE_BYTES];
+    get(dump, sizeof dump);
+    return device_of(dump);
+}
+
+static lm89_reader get_reader(void)
+{
+    uint8_t dump[READER_BYTES];
+    lm89_reader reader = { 0 };
+    get(dump, sizeof dump);
+    reader.head = dump[0];
+    reader.count = number_at(dump + 1, 4);
+    reader.done = number_at(dump + 5, 4);
+    reader.carried = dump[9];
+    memcpy(reader.bytes, dump + 10, sizeof reader.bytes);
+    reader.held = dump[13];
+    reader.device = device_of(dump + 14);
+    return reader;
+}
+
+static void put_reader(const lm89_reader *reader)
+{
+    put_byte(reader->head);
+    put_number(reader->count, 4);
+    put_number(reader->done, 4);
+    put_byte(reader->carried);
+    put(reader->bytes, sizeof reader->bytes);
+    put_byte(reader->held);
+    put_device(&reader->device);
+}
+
+/* ---- Calls ------------------------------------------------------------- */
+
+static void feed(lm89_reader *reader)
+{
+    uint32_t length = get_number(2);
+    uint32_t room = get_number(2);
+    const uint8_t *input = get_input(length);
+    lm89_fed fed = lm89_feed(*reader, input, length, lend(room), room);
+    if (fed.consumed > length || fed.written > room)
+        stop("more bytes are counted than were lent");
+    *reader = fed.reader;
+    put_byte(fed.code);
+    put_number(fed.consumed, 4);
+    put_number(fed.written, 4);
+    put_room(room);
+    put_reader(reader);
+}
+
+static void power_on(lm89_device *device)
+{
+    *device = lm89_power_on((uint8_t)get_number(1));
+    put_device(device);
 }
 
 static void step(lm89_device *device)
 {
-    static const uint8_t operands[] = { 0, 3, 2, 2, 1, 3, 1, 0 };
-    uint8_t event[4];
-    get(event, sizeof event);
-    if (event[0] < LM89_KIND_WRITE || event[0] > LM89_KIND_POWER_ON)
-        stop("a step's kind is not 1 to 7");
-    for (unsigned i = 1 + operands[event[0]]; i < sizeof event; i++)
-        event[i] = 0;
-    lm89_answer answer = lm89_step(device, event[0], event[1], event[2], event[3]);
-    uint8_t head[] = { 'S', answer.code, answer.first, answer.second };
-    put(head, sizeof head);
+    uint8_t record[LM89_RECORD_BYTES];
+    get(record, sizeof record);
+    lm89_answer answer = lm89_step(device, record[0], record[1], record[2], record[3]);
+    put_byte(answer.code);
+    put_byte(answer.first);
+    put_byte(answer.second);
     put_device(device);
+}
+
+static void write_event(void)
+{
+    uint8_t record[LM89_RECORD_BYTES];
+    get(record, sizeof record);
+    uint32_t room = get_number(2);
+    put_byte(lm89_write_event(record[0], record[1], record[2], record[3], lend(room), room));
+    put_room(room);
+}
+
+static void write_header(void)
+{
+    uint8_t variant = (uint8_t)get_number(1);
+    uint32_t count = get_number(4);
+    uint32_t room = get_number(2);
+    put_byte(lm89_write_header(variant, count, lend(room), room));
+    put_room(room);
+}
+
+/* The library's judgement of a record is its writer's: the event is what was written, and all zeros where it is refused. */
+static void decode(void)
+{
+    static const uint8_t no_event[LM89_RECORD_BYTES];
+    uint8_t record[LM89_RECORD_BYTES];
+    get(record, sizeof record);
+    uint8_t code = lm89_write_event(record[0], record[1], record[2], record[3], lend(sizeof record), sizeof record);
+    put_byte(code);
+    if (code == LM89_CODE_DONE) {
+        put_room(sizeof record);
+    } else {
+        check_untouched(guarded, GUARD + sizeof record + GUARD);
+        put(no_event, sizeof no_event);
+    }
 }
 
 static void run(void)
 {
-    uint32_t length = get_number();
-    uint32_t room = get_number();
-    if (length > CAPTURE_MOST || room > CAPTURE_MOST)
-        stop("a run's capture or room is above 1000000 bytes");
-    get(capture, length);
-    memset(answers, FILL, room + GUARD);
-    uint64_t result = lm89_run(capture, length, answers, room);
-    uint8_t head[9] = { 'C' };
-    for (unsigned i = 0; i < 8; i++)
-        head[1 + i] = (uint8_t)(result >> 8 * (7 - i));
-    put(head, sizeof head);
-    put(answers, room);
-    for (size_t i = room; i < room + GUARD; i++)
-        if (answers[i] != FILL)
-            stop("a run wrote behind its room");
+    uint32_t length = get_number(4);
+    uint32_t room = get_number(4);
+    const uint8_t *capture = get_input(length);
+    put_number(lm89_run(capture, length, lend(room), room), 8);
+    put_room(room);
+}
+
+static void answer(lm89_reader *reader, lm89_device *device)
+{
+    taken++;
+    put_byte((uint8_t)command);
+    switch (command) {
+    case 'N': *reader = lm89_fresh(); break;
+    case 'R': *reader = get_reader(); break;
+    case 'F': feed(reader); break;
+    case 'E': put_byte(lm89_finish(*reader)); break;
+    case 'D': *device = get_device(); break;
+    case 'P': power_on(device); break;
+    case 'S': step(device); break;
+    case 'W': write_event(); break;
+    case 'H': write_header(); break;
+    case 'B': decode(); break;
+    case 'C': run(); break;
+    default: stop("there is no such call");
+    }
 }
 
 int main(void)
 {
+    lm89_reader reader = { 0 };
     lm89_device device = { 0 };
-    for (int command = getchar(); command != EOF; command = getchar()) {
-        if (command == 'D') {
-            device = get_device();
-            put((const uint8_t *)"D", 1);
-        } else if (command == 'S') {
-            step(&device);
-        } else if (command == 'C') {
-            run();
-        } else {
-            stop("a call other than D, S and C");
-        }
+    for (command = getchar(); command != EOF; command = getchar())
+        answer(&reader, &device);
+    if (ferror(stdin) || fflush(stdout) != 0) {
+        fprintf(stderr, "library: cannot read standard input or write standard output\n");
+        return 1;
     }
-    return fflush(stdout) == 0 ? 0 : 1;
+    return 0;
 }

@@ -6,21 +6,21 @@ WRITABLE = bytes.fromhex("090A0B0C0D0E0F11121314192021BF")
 SETTINGS = bytes.fromhex("090A0B0C0D0E11121314192021BF")
 KEPT = bytes.fromhex("D5FFFFFFFFFFFFE0E0E0FFFF1F07")
 STANDBY = 0x40
+DROPPED = bytes(0xFF - kept for kept in KEPT)
 OUTSIDE = sorted(set(range(256)) - set(READABLE) - set(WRITABLE))
-DROPPING = [i for i in range(14) if KEPT[i] != 0xFF]
 
 
 def remote_reading(device):
     return int.from_bytes(device[5:7], "big", signed=True)
 
 
-# (field, value, whether it is in range), for fields of a device whose range has ends.
-DEVICE_ENDS = [
-    ("fault count", 0, True), ("fault count", 3, True), ("fault count", 4, False), ("fault count", 255, False),
-    ("remote reading", -1024, True), ("remote reading", 1023, True), ("remote reading", -1025, False),
-    ("remote reading", 1024, False), ("status", 0x7F, True), ("status", 0x80, False), ("live byte", 0x7F, True),
-    ("live byte", 0x80, False), ("one-shot pending, D6 of 09", 1, True), ("one-shot pending, D6 of 09", 0, False),
-]
+# (field, value): whether it is in range, for fields of a device whose range has ends.
+DEVICE_ENDS = {
+    ("fault count", 0): True, ("fault count", 3): True, ("fault count", 4): False, ("fault count", 255): False,
+    ("remote reading", -1024): True, ("remote reading", 1023): True, ("remote reading", -1025): False,
+    ("remote reading", 1024): False, ("status", 0x7F): True, ("status", 0x80): False, ("live byte", 0x7F): True,
+    ("live byte", 0x80): False, ("one-shot pending, D6 of 09", 1): True, ("one-shot pending, D6 of 09", 0): False,
+}
 VARIANT_ENDS = [(0, False), (1, True), (3, True), (4, False), (255, False)]
 
 
@@ -47,7 +47,7 @@ def device_faults(device):
         faults.append("live byte")
     if device[2] and not device[11] & STANDBY:
         faults.append("one-shot pending, D6 of 09")
-    return faults + [f"setting {SETTINGS[i]:02X}" for i in DROPPING if device[11 + i] & ~KEPT[i]]
+    return faults + [f"setting {address:02X}" for address, byte, dropped in zip(SETTINGS, device[11:], DROPPED) if byte & dropped]
 
 
 def told(value, fits):
@@ -57,15 +57,15 @@ def told(value, fits):
 
 def need(table):
     for name in ("step", "feed", "finish"):
-        for field, value, fits in DEVICE_ENDS:
+        for (field, value), fits in DEVICE_ENDS.items():
             table.need(f"{name}: {field} {told(value, fits)}")
         table.need_all(f"{name}: pointer in range, each of R and W", READABLE + WRITABLE)
         table.need_all(f"{name}: pointer out of range, each other byte", OUTSIDE)
-        for i in DROPPING:
-            dropped = [1 << bit for bit in range(8) if not KEPT[i] & 1 << bit]
-            table.need_all(f"{name}: setting {SETTINGS[i]:02X} with one dropped bit, each", dropped)
-        for i in range(14):
-            table.need(f"{name}: setting {SETTINGS[i]:02X} with every kept bit, in range")
+        for address, dropped in zip(SETTINGS, DROPPED):
+            if dropped:
+                bits = [1 << bit for bit in range(8) if dropped & 1 << bit]
+                table.need_all(f"{name}: setting {address:02X} with one dropped bit, each", bits)
+            table.need(f"{name}: setting {address:02X} with every kept bit, in range")
     for value, fits in VARIANT_ENDS:
         table.need(f"step: variant {told(value, fits)}")
     for name in ("feed", "finish"):
@@ -96,15 +96,15 @@ def need_reader(table, name):
 
 def see_device(table, name, device, faults, code):
     """Counts a device with no field out of range, or one."""
-    values = device_values(device)
-    for field, value, fits in DEVICE_ENDS:
-        if values.get(field) == value and (code != 8 if fits else faults == [field] and code == 8):
+    for field, value in device_values(device).items():
+        fits = DEVICE_ENDS.get((field, value))
+        if fits and code != 8 or fits is False and faults == [field] and code == 8:
             table.count(f"{name}: {field} {told(value, fits)}")
     if code != 8:
         table.count_value(f"{name}: pointer in range, each of R and W", device[1])
-        for i in range(14):
-            if device[11 + i] == KEPT[i]:
-                table.count(f"{name}: setting {SETTINGS[i]:02X} with every kept bit, in range")
+        for address, byte, kept in zip(SETTINGS, device[11:], KEPT):
+            if byte == kept:
+                table.count(f"{name}: setting {address:02X} with every kept bit, in range")
     elif faults == ["pointer"]:
         table.count_value(f"{name}: pointer out of range, each other byte", device[1])
     elif len(faults) == 1 and faults[0].startswith("setting"):

@@ -7,7 +7,7 @@ REMOTE_BITS = {0x10: "the high limit", 0x08: "the low limit", 0x02: "T_CRIT"}
 ALERTING = 0x7B
 ALERT_MASK, QUEUE, COMPARATOR = 0x80, 0x01, 0x01
 LIMITS = ("local high", "local low", "local T_CRIT", "remote high", "remote low", "remote T_CRIT")
-PLACES = ("at the limit", "one step out", "two steps out", "one step within", "two steps within")
+PLACES = {0: "at the limit", 1: "one step out", 2: "two steps out", -1: "one step within", -2: "two steps within"}
 OTHER_ADDRESSES = ("0Ch", "the other part's", "any other")
 
 RULINGS = """
@@ -127,7 +127,7 @@ def need(table):
             table.need(f"{byte}: {bit} set", f"{byte}: {bit} cleared")
     table.need(*RULINGS)
     for limit in LIMITS:
-        table.need(*(f"P3 {limit}: {place}" for place in PLACES))
+        table.need(*(f"P3 {limit}: {place}" for place in PLACES.values()))
     for kind in ("write", "read", "send", "receive"):
         table.need(*(f"P10 {kind} at another address: {which}" for which in OTHER_ADDRESSES))
     table.need_all("registers: read, each of R", READABLE)
@@ -171,7 +171,7 @@ class Steps:
 
     def see(self, event, result):
         before, code, after = self.device, result[1], result[4:]
-        if self.just_set and code != 4:
+        if self.just_set and code in (0, 8):
             ranges.see_step(self.table, before, code)
         self.just_set = False
         self.device = after
@@ -278,10 +278,9 @@ class Steps:
             "local T_CRIT": local - degrees(after[22]), "remote high": remote - eighths(after[15], after[19]),
             "remote low": eighths(after[16], after[20]) - remote, "remote T_CRIT": remote - degrees(after[21]) * 8,
         }
-        places = {0: PLACES[0], 1: PLACES[1], 2: PLACES[2], -1: PLACES[3], -2: PLACES[4]}
         for limit, steps in beyond.items():
-            if steps in places:
-                self.table.count(f"P3 {limit}: {places[steps]}")
+            if steps in PLACES:
+                self.table.count(f"P3 {limit}: {PLACES[steps]}")
 
     def see_faults(self, before, after):
         queue, count, remote_bits = before[11] & QUEUE, after[8], after[7] & 0x1A

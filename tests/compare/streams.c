@@ -36,6 +36,7 @@ static const uint8_t readable[] = {
 };
 static const uint8_t only_writable[] = { 0x09, 0x0A, 0x0B, 0x0C, 0x0D, 0x0E, 0x0F };
 static const uint8_t outside[] = { 0x15, 0x18, 0x1A, 0x1F, 0x22, 0x30, 0x80, 0xB0, 0xBE, 0xC0, 0xFD };
+static const uint8_t unknown_kinds[] = { 0, 8, 9, 0x80, 0x81, 0xFF };
 
 enum { ONE_SHOT = 0x0F, STATUS = 0x02, ALERT_RESPONSE = 0x0C };
 enum { ALERT_MASK = 0x80, STANDBY = 0x40, FAULT_QUEUE = 0x01, COMPARATOR = 0x01 };
@@ -108,6 +109,12 @@ static void call_device(const uint8_t *dump)
 {
     put("D", 1);
     put(dump, DEVICE_BYTES);
+}
+
+static void call_power_on(uint8_t variant)
+{
+    put("P", 1);
+    put(&variant, 1);
 }
 
 static void call_step(record event)
@@ -551,6 +558,105 @@ static void start(bench *b, uint8_t variant)
     power_on_settings(b->set, variant);
 }
 
+/* ---- Records, right and broken ------------------------------------------ */
+
+static bool has_operand(uint8_t kind, unsigned operand)
+{
+    static const uint8_t operands[] = { 0, 3, 2, 2, 1, 3, 1, 0 };
+    return operand < operands[kind];
+}
+
+static record bus_record(uint8_t kind, uint8_t address, uint8_t number, uint8_t value)
+{
+    return (record){ kind, address, has_operand(kind, 1) ? number : 0, has_operand(kind, 2) ? value : 0 };
+}
+
+static record plain_record(uint8_t kind)
+{
+    record r = kind == CONVERSION ? any_conversion() : (record){ kind, 0, 0, 0 };
+    if (kind >= WRITE && kind <= RECEIVE)
+        r.a = below(128);
+    if (kind >= WRITE && kind <= SEND)
+        r.b = any_byte();
+    if (kind == WRITE)
+        r.c = any_byte();
+    if (kind == OPEN_DIODE)
+        r.a = any_byte();
+    return r;
+}
+
+static void any_bytes(record *r)
+{
+    r->a = any_byte();
+    r->b = any_byte();
+    r->c = any_byte();
+}
+
+static uint8_t not_zero(void)
+{
+    static const uint8_t bits[] = { 1, 0x20, 0x80, 0xFF };
+    return one_in(2) ? ONE_OF(bits) : (uint8_t)(1 + below(255));
+}
+
+/* Breaks operand 0, 1 or 2 of a record, where the table of kinds lets it be broken. */
+static bool break_operand(record *r, unsigned operand)
+{
+    uint8_t *places[] = { &r->a, &r->b, &r->c };
+    if (operand == 0 && r->kind <= RECEIVE)
+        r->a |= 0x80;
+    else if (operand == 2 && r->kind == CONVERSION)
+        r->c = (uint8_t)(r->c + 1 + below(31));
+    else if (!has_operand(r->kind, operand))
+        *places[operand] = not_zero();
+    else
+        return false;
+    return true;
+}
+
+static void break_one_operand(record *r)
+{
+    unsigned operand = below(3);
+    while (!break_operand(r, operand))
+        operand = (operand + 1) % 3;
+}
+
+static void break_kind(record *r)
+{
+    r->kind = ONE_OF(unknown_kinds);
+    if (one_in(2))
+        r->a = r->b = r->c = 0xFF;
+}
+
+/* Every value of each byte of a record, the others being right. */
+static void every_operand(uint8_t kind, void (*take)(record))
+{
+    for (unsigned value = 0; value < 256; value++) {
+        record r = plain_record(kind);
+        r.a = (uint8_t)value;
+        take(r);
+        r = plain_record(kind);
+        r.b = (uint8_t)value;
+        take(r);
+        r = plain_record(kind);
+        r.c = (uint8_t)value;
+        take(r);
+    }
+}
+
+/* Each of the 256 kinds, and next to the seven that are some, every value of each operand. */
+static void every_kind(void (*take)(record))
+{
+    for (unsigned kind = 0; kind < 256; kind++) {
+        record r = plain_record((uint8_t)kind);
+        take(r);
+        any_bytes(&r);
+        take(r);
+        take((record){ (uint8_t)kind, 0xFF, 0xFF, 0xFF });
+    }
+    for (unsigned kind = 0; kind <= POWER_ON + 1; kind++)
+        every_operand((uint8_t)kind, take);
+}
+
 /* ---- Devices ----------------------------------------------------------- */
 
 static void power_on_device(uint8_t *dump, uint8_t variant)
@@ -610,39 +716,17 @@ static void aim_at(bench *b, const uint8_t *dump)
     memcpy(b->set, dump + AT_SETTINGS, SETTINGS);
 }
 
-static bool has_operand(uint8_t kind, unsigned operand)
-{
-    static const uint8_t operands[] = { 0, 3, 2, 2, 1, 3, 1, 0 };
-    return operand < operands[kind];
-}
-
-/* Anything at all in the places of which an event has no operand. */
-static record with_unused(record event)
-{
-    if (!has_operand(event.kind, 0))
-        event.a = any_byte();
-    if (!has_operand(event.kind, 1))
-        event.b = any_byte();
-    if (!has_operand(event.kind, 2))
-        event.c = any_byte();
-    return event;
-}
-
-static record with_bad_operand(record event)
-{
-    if (event.kind <= RECEIVE)
-        event.a |= 0x80;
-    if (event.kind == CONVERSION)
-        event.c = (uint8_t)(event.c + 1 + below(31));
-    return event;
-}
-
+/* A step, now and then behind one that is refused. */
 static void step(record event)
 {
-    if (one_in(8))
-        event = with_unused(event);
-    if (one_in(40))
-        call_step(with_bad_operand(event));
+    if (one_in(20)) {
+        record broken = event;
+        if (one_in(4))
+            break_kind(&broken);
+        else
+            break_one_operand(&broken);
+        call_step(broken);
+    }
     call_step(event);
 }
 
@@ -652,8 +736,7 @@ static void theme_device(void)
     bench b;
     for (unsigned sequence = 0; sequence < 120; sequence++) {
         start(&b, (uint8_t)(1 + sequence % 3));
-        power_on_device(dump, b.variant);
-        call_device(dump);
+        call_power_on(b.variant);
         for (unsigned i = 0; i < 500; i++)
             step(next_record(&b));
     }
@@ -742,6 +825,8 @@ static void step_on(const uint8_t *dump)
     call_step(any_conversion());
     if (one_in(8))
         call_step((record){ READ, 0x80, 0, 0 });
+    if (one_in(8))
+        call_step((record){ ONE_OF(unknown_kinds), 0, 0, 0 });
 }
 
 static void every_register(const uint8_t *dump)
@@ -751,7 +836,7 @@ static void every_register(const uint8_t *dump)
     for (unsigned kind = WRITE; kind <= SEND; kind++)
         for (unsigned address = 0; address < 256; address++) {
             call_device(dump);
-            call_step((record){ (uint8_t)kind, own_address(&b), (uint8_t)address, any_byte() });
+            call_step(bus_record((uint8_t)kind, own_address(&b), (uint8_t)address, any_byte()));
             call_step((record){ RECEIVE, own_address(&b), 0, 0 });
         }
 }
@@ -761,7 +846,7 @@ static void every_address(const uint8_t *dump)
     for (unsigned kind = WRITE; kind <= RECEIVE; kind++)
         for (unsigned address = 0; address < 256; address++) {
             call_device(dump);
-            call_step((record){ (uint8_t)kind, (uint8_t)address, 0x19, any_byte() });
+            call_step(bus_record((uint8_t)kind, (uint8_t)address, 0x19, any_byte()));
         }
 }
 
@@ -778,12 +863,18 @@ static void every_low_byte(const uint8_t *dump)
 static void theme_device_ranges(void)
 {
     uint8_t dump[DEVICE_BYTES];
+    for (unsigned variant = 0; variant < 256; variant++) {
+        call_power_on((uint8_t)variant);
+        call_step((record){ READ, variant == 1 ? 0x4C : 0x4D, 0xFF, 0 });
+    }
     for (unsigned variant = 1; variant <= 3; variant++) {
         power_on_device(dump, (uint8_t)variant);
         device_edges(dump, step_on);
         every_register(dump);
         every_address(dump);
     }
+    call_device(dump);
+    every_kind(call_step);
     for (unsigned i = 0; i < 8; i++) {
         random_device(dump);
         device_edges(dump, step_on);
@@ -833,27 +924,6 @@ static void make_capture(capture *c, size_t records)
     c->refused = c->length;
 }
 
-static uint8_t not_zero(void)
-{
-    static const uint8_t bits[] = { 1, 0x20, 0x80, 0xFF };
-    return one_in(2) ? ONE_OF(bits) : (uint8_t)(1 + below(255));
-}
-
-/* Breaks operand 0, 1 or 2 of a record, where the table of kinds lets it be broken. */
-static bool break_operand(record *r, unsigned operand)
-{
-    uint8_t *places[] = { &r->a, &r->b, &r->c };
-    if (operand == 0 && r->kind <= RECEIVE)
-        r->a |= 0x80;
-    else if (operand == 2 && r->kind == CONVERSION)
-        r->c = (uint8_t)(r->c + 1 + below(31));
-    else if (!has_operand(r->kind, operand))
-        *places[operand] = not_zero();
-    else
-        return false;
-    return true;
-}
-
 static void refuse_at(capture *c, size_t place)
 {
     if (place < c->refused)
@@ -870,11 +940,10 @@ static void damage_header(capture *c, unsigned place)
 
 static void damage_kind(capture *c, size_t index)
 {
-    static const uint8_t kinds[] = { 0, 8, 9, 0x80, 0x81, 0xFF };
     uint8_t *bytes = c->bytes + HEADER_BYTES + RECORD_BYTES * index;
-    bytes[0] = ONE_OF(kinds);
-    if (one_in(2))
-        memset(bytes + 1, 0xFF, 3);
+    record r = record_at(bytes);
+    break_kind(&r);
+    put_record(bytes, r);
     refuse_at(c, HEADER_BYTES + RECORD_BYTES * index + 3);
 }
 
@@ -886,9 +955,7 @@ static void damage_operand(capture *c, size_t index)
     };
     bool replaced = bytes[0] < WRITE || bytes[0] > POWER_ON || one_in(2);
     record r = replaced ? ONE_OF(plain) : record_at(bytes);
-    unsigned operand = below(3);
-    while (!break_operand(&r, operand))
-        operand = (operand + 1) % 3;
+    break_one_operand(&r);
     put_record(bytes, r);
     refuse_at(c, HEADER_BYTES + RECORD_BYTES * index + 3);
 }
@@ -1197,65 +1264,35 @@ static void theme_reader_ranges(void)
 
 /* ---- The writers and the decoder ---------------------------------------- */
 
-static record plain_record(uint8_t kind)
-{
-    record r = kind == CONVERSION ? any_conversion() : (record){ kind, 0, 0, 0 };
-    if (kind >= WRITE && kind <= RECEIVE)
-        r.a = below(128);
-    if (kind >= WRITE && kind <= SEND)
-        r.b = any_byte();
-    if (kind == WRITE)
-        r.c = any_byte();
-    if (kind == OPEN_DIODE)
-        r.a = any_byte();
-    return r;
-}
-
-/* Every value of each byte of a record, the others being right. */
-static void every_operand(uint8_t kind, void (*take)(record))
-{
-    for (unsigned value = 0; value < 256; value++) {
-        record r = plain_record(kind);
-        r.a = (uint8_t)value;
-        take(r);
-        r = plain_record(kind);
-        r.b = (uint8_t)value;
-        take(r);
-        r = plain_record(kind);
-        r.c = (uint8_t)value;
-        take(r);
-    }
-}
-
 static void write_in_any_room(record r)
 {
     call_write_event(r, any_room());
 }
 
-static void any_bytes(record *r)
+/* Records of every kind, right and with each operand broken alone, and kinds that are none. */
+static void write_in_room(uint32_t room)
 {
-    r->a = any_byte();
-    r->b = any_byte();
-    r->c = any_byte();
+    for (unsigned kind = WRITE; kind <= POWER_ON; kind++) {
+        call_write_event(plain_record((uint8_t)kind), room);
+        for (unsigned operand = 0; operand < 3; operand++) {
+            record r = plain_record((uint8_t)kind);
+            if (break_operand(&r, operand))
+                call_write_event(r, room);
+        }
+    }
+    for (size_t i = 0; i < COUNT_OF(unknown_kinds); i++) {
+        call_write_event((record){ unknown_kinds[i], 0, 0, 0 }, room);
+        call_write_event((record){ unknown_kinds[i], 0xFF, 0xFF, 0xFF }, room);
+    }
 }
 
 static void theme_writer(void)
 {
     static const uint32_t counts[] = { 0, 1, 255, 256, 65535, 65536, 0xFFFFFF, 0x1000000, 0x12345678, 0xFFFFFFFFu };
-    for (unsigned kind = 0; kind < 256; kind++) {
-        record r = plain_record((uint8_t)kind);
-        call_decode(r);
-        any_bytes(&r);
-        call_decode(r);
-        call_decode((record){ (uint8_t)kind, 0xFF, 0xFF, 0xFF });
-    }
-    for (unsigned kind = 0; kind <= 8; kind++)
-        every_operand((uint8_t)kind, call_decode);
-    for (unsigned kind = WRITE; kind <= POWER_ON; kind++) {
-        every_operand((uint8_t)kind, write_in_any_room);
-        for (uint32_t room = 0; room < 8; room++)
-            call_write_event(plain_record((uint8_t)kind), room);
-    }
+    every_kind(call_decode);
+    every_kind(write_in_any_room);
+    for (uint32_t room = 0; room < 9; room++)
+        write_in_room(room == 8 ? 300 : room);
     for (unsigned i = 0; i < 4000; i++) {
         record r = { (uint8_t)(1 + below(7)), 0, 0, 0 };
         any_bytes(&r);

@@ -24,6 +24,13 @@ class Table:
         self.counts[name] += 1
         self.sets[name].discard(value)
 
+    def add(self, other):
+        """What another table of the same things counted."""
+        for name, times in other.counts.items():
+            self.counts[name] += times
+        for name, values in other.sets.items():
+            self.sets[name] &= values
+
     def show(self):
         for name, times in self.counts.items():
             print(f"{times:9}  {name}")
