@@ -195,8 +195,8 @@ static void test_reader_ranges(void)
         OUT_OF_RANGE(head, carried, 1);
         OUT_OF_RANGE(head, bytes[0], 1);
     }
-    OUT_OF_RANGE(IN_RECORD, head, 7);
-    OUT_OF_RANGE(IN_RECORD, head, 255);
+    OUT_OF_RANGE(LM89_HEADER_BYTES, head, LM89_HEADER_BYTES + 1);
+    OUT_OF_RANGE(LM89_HEADER_BYTES, head, 255);
     OUT_OF_RANGE(IN_RECORD, done, 2);
     OUT_OF_RANGE(IN_RECORD, done, 3);
     OUT_OF_RANGE(IN_RECORD, carried, 4);
@@ -210,6 +210,21 @@ static void test_reader_ranges(void)
     IN_RANGE(IN_RECORD, count, UINT32_MAX);
     IN_RANGE(IN_RECORD, carried, 3);
     IN_RANGE(IN_RECORD, bytes[0], 0xFF);
+}
+
+/* Before the header is complete nothing is carried and no record is done, also where the count so far allows both. */
+static void test_count_so_far(void)
+{
+    for (uint8_t head = 3; head < LM89_HEADER_BYTES; head++) {
+        lm89_reader reader = after(head);
+        reader.count = 2;
+        CHECK(empty_part_stands(reader, LM89_CODE_DONE, LM89_CODE_CUT_SHORT));
+        reader.carried = 1;
+        CHECK(out_of_range(reader));
+        reader.carried = 0;
+        reader.done = 1;
+        CHECK(out_of_range(reader));
+    }
 }
 
 static void test_device_ranges(void)
@@ -371,6 +386,7 @@ int main(int count, char **words)
     test_room();
     test_held();
     test_reader_ranges();
+    test_count_so_far();
     test_device_ranges();
     test_variant_before();
     test_capture(two, sizeof two);
