@@ -1,40 +1,49 @@
-PREFIX ?= /usr/local
-CAPTURE ?= samples/01-document.hex
+# 'make help' says what each target does.
+export PREFIX ?= /usr/local
+export DESTDIR
+export CAPTURE ?= samples/01-document.hex
 
-.PHONY: all build list lib test misreadings speed install clean
+# One run of scripts/build.sh makes all products; build/built is as old as its start. Folders count as sources, since files in them may go.
+PRODUCTS := build/lib/liblm89.a build/lib/liblm89_list.a build/lib/lm89.h build/lib/lm89_list.h build/bin/lm89
+SOURCES := crates.txt include/lm89.h include/lm89_list.h command/lm89.c scripts/build.sh scripts/machine.sh \
+    $(shell find crates -name must-fail -prune -o \( -type d -o -name '*.rt' -o -name '*.antt' \) -print)
+MISSING := $(filter-out $(wildcard $(PRODUCTS)),$(PRODUCTS))
 
-all: list
+.PHONY: all list lib test misreadings speed install uninstall clean help $(if $(MISSING),build/built)
+.NOTPARALLEL:
 
-build:
-	@scripts/build.sh
+all: build/built ## build libraries and command: the default
 
-# The listing of a capture: raw bytes, or hex text in a file whose name ends with .hex.
-list: build
-	@case "$(CAPTURE)" in \
-	*.hex) python3 tests/hex.py <"$(CAPTURE)" ;; \
-	*) cat "$(CAPTURE)" ;; \
-	esac | build/bin/lm89-listing
+build/built: $(SOURCES)
+	@scripts/build.sh >&2
 
-lib: build
-	@ls build/lib/liblm89.a build/lib/lm89.h
+list: all ## list a capture, CAPTURE=FILE: raw bytes, or hex text in a file whose name ends with .hex
+	@case "$$CAPTURE" in \
+	*.hex) bytes="build/$$(basename -- "$$CAPTURE" .hex).bytes"; \
+	    python3 tests/hex.py "$$CAPTURE" >"$$bytes" && build/bin/lm89 list "$$bytes" ;; \
+	*) build/bin/lm89 list -- "$$CAPTURE" ;; \
+	esac
 
-# The gate.
-test:
+lib: all ## build, and name what a C program includes and links
+	@ls build/lib/*
+
+test: ## the gate: prove everything from nothing, try the must-fail edits, run the tests
 	.ci/run
 
-# Misreadings of document 01 in the definitions, with no function in sight: does a theorem notice each?
-misreadings:
+misreadings: ## put misreadings of document 01 into the definitions: does a theorem notice each?
 	@python3 tests/misreadings.py
 
-# Nanoseconds a record, against the second program.
-speed:
+speed: ## nanoseconds a record, against the second program; megabytes a second of the listing
 	@scripts/speed.sh
 
-install: build
-	install -d "$(DESTDIR)$(PREFIX)/include" "$(DESTDIR)$(PREFIX)/lib" "$(DESTDIR)$(PREFIX)/bin"
-	install -m 644 build/lib/lm89.h "$(DESTDIR)$(PREFIX)/include"
-	install -m 644 build/lib/liblm89.a "$(DESTDIR)$(PREFIX)/lib"
-	install -m 755 build/bin/* "$(DESTDIR)$(PREFIX)/bin"
+install: all ## put headers, libraries, command and manual page under PREFIX, /usr/local if not given
+	@scripts/install.sh install
 
-clean:
+uninstall: ## remove the files that install puts under PREFIX
+	@scripts/install.sh uninstall
+
+clean: ## remove all that was built or proved
 	rm -rf build target
+
+help: ## list the targets
+	@awk -F ':.*## ' '/^[a-z]+:.*## / { printf "make %-12s %s\n", $$1, $$2 }' Makefile

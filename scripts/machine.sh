@@ -8,6 +8,7 @@ kit=$(dirname "$(dirname "$(realpath "$(command -v rt)")")")
 toolchain=$kit/on/$machine/toolchain
 emulator=("$toolchain/bin/qemu-x86_64" "$toolchain/lib/ld-linux-x86-64.so.2" --library-path "$toolchain/lib")
 library=build/lib/liblm89.a
+listing_library=build/lib/liblm89_list.a
 flags=(-std=c11 -O2 -Wall -Wextra -Werror -pedantic -Iinclude)
 
 # For x86-64 on any machine: the machine's clang, else the kit's with the headers of the machine's cc.
@@ -15,21 +16,22 @@ across=(clang)
 command -v clang >/dev/null || across=("$toolchain/bin/clang" -isystem "$(cc -print-file-name=include)")
 across+=(--target=x86_64-unknown-linux-gnu -isystem /usr/include -isystem "/usr/include/$machine-linux-gnu")
 
-# Program OUT of OUT.o, by the kit; what the linker says is shown only where it fails.
+# Program OUT of OUT.o and ARCHIVE, by the kit; what the linker says is shown only where it fails.
 link_across() {
     "$kit/on/$machine/bin/rattle-link" --target x86_64-unknown-linux-gnu --toolchain "$toolchain" \
-        -o "$1" "$1.o" "$library" >"$1.log" 2>&1 || {
+        -o "$1" "$1.o" "$2" >"$1.log" 2>&1 || {
         cat "$1.log"
         return 1
     }
 }
 
-# Program OUT of SOURCE. The library is x86-64 on every machine: elsewhere the kit's toolchain links and runs it.
+# Program OUT of SOURCE and ARCHIVE, else the library. Archives are x86-64 on every machine: elsewhere the kit's toolchain links.
 compile_link() {
+    local archive=${3:-$library}
     if [ "$machine" = x86_64 ]; then
-        cc "${flags[@]}" -o "$1" "$2" "$library"
+        cc "${flags[@]}" -o "$1" "$2" "$archive"
     else
-        "${across[@]}" -fPIE "${flags[@]}" -c "$2" -o "$1.o" && link_across "$1"
+        "${across[@]}" -fPIE "${flags[@]}" -c "$2" -o "$1.o" && link_across "$1" "$archive"
     fi
 }
 

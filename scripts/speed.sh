@@ -18,5 +18,5 @@ cc -o build/speed build/speed.o build/second.o "$library"
 build/speed
 build/speed 1000000 build/capture-4
 build/speed 16000000 build/capture-64
-python3 speed/listing.py build/bin/lm89-listing build/capture-4 build/capture-64
+python3 speed/listing.py build/bin/lm89 build/capture-4 build/capture-64
 rm build/capture-4 build/capture-64

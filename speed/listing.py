@@ -1,4 +1,4 @@
-"""listing.py PROGRAM CAPTURE...: for each capture the listing's megabytes of capture a second, best of three, and its peak memory."""
+"""listing.py COMMAND CAPTURE...: for each capture the listing's megabytes of capture a second, best of three, and its peak memory."""
 import os
 import re
 import resource
@@ -6,19 +6,19 @@ import subprocess
 import sys
 
 
-def seconds(program, capture):
+def seconds(command, capture):
     """Processor time of one listing."""
     before = resource.getrusage(resource.RUSAGE_CHILDREN)
     with open(capture, "rb") as file:
-        subprocess.run([program], stdin=file, stdout=subprocess.DEVNULL, check=True)
+        subprocess.run([command, "list"], stdin=file, stdout=subprocess.DEVNULL, check=True)
     after = resource.getrusage(resource.RUSAGE_CHILDREN)
     return after.ru_utime + after.ru_stime - before.ru_utime - before.ru_stime
 
 
-def peak(program, capture):
+def peak(command, capture):
     """Kilobytes, as the system has them of the program while it waits for what follows the capture."""
     with open(capture, "rb") as file:
-        child = subprocess.Popen([program], stdin=subprocess.PIPE, stdout=subprocess.DEVNULL)
+        child = subprocess.Popen([command, "list"], stdin=subprocess.PIPE, stdout=subprocess.DEVNULL)
         child.stdin.write(file.read())
         child.stdin.flush()
         with open(f"/proc/{child.pid}/status") as status:

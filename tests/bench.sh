@@ -1,6 +1,6 @@
 #!/usr/bin/env bash
-# What members run: the C example and the C tests on the library, the listing of every sample held to the file beside it,
-# and a large capture in blocks of several sizes. Exits non-zero at the first failure.
+# What members run: the C examples and the C tests on the library, the listing of every sample held to the file beside it, each of
+# them in parts too, and a large capture in blocks of several sizes. Exits non-zero at the first failure.
 set -euo pipefail
 cd "$(dirname "$0")/.."
 source scripts/machine.sh
@@ -20,43 +20,79 @@ passes() {
     printf 'c: %s ok\n' "$1"
 }
 
+# A header of another major version than the library's is noticed by the example, when it runs.
+other_version() {
+    local other=build/other-version
+    mkdir -p "$other"
+    sed 's/^#define LM89_VERSION_MAJOR .*/#define LM89_VERSION_MAJOR 65535/' include/lm89.h >"$other/lm89.h"
+    (
+        flags=("-I$other" "${flags[@]}")
+        program other-version/example examples/bench.c
+    )
+    ! run "$other/example" >"$other/said" || stop "examples/bench.c accepts a header of another major version than the library's"
+    grep -q 'lm89.h is of version 65535' "$other/said" || stop "examples/bench.c says '$(<"$other/said")' of a header of another version"
+    printf 'c: another version is noticed\n'
+}
+
+is_cpp() {
+    "${across[@]}" -x c++ -std=c++11 -fsyntax-only -Wall -Wextra -Werror -pedantic -Iinclude -include lm89_list.h "$1" ||
+        stop "$1 or a header is not C++, see above"
+}
+
 same() {
     cmp "$1" "$2" || {
-        diff "$1" "$2" | head -n 20
+        diff "$1" "$2" | head -n 20 || true
         stop "$3"
     }
 }
 
-# By the library from C, and by the listing program.
+# By the library from C, whole and in parts; tests/command.sh lists the samples by the command.
 sample() {
-    python3 tests/hex.py <"samples/$1.hex" >build/capture || stop "samples/$1.hex is not hex text"
+    python3 tests/hex.py "samples/$1.hex" >build/capture || stop "samples/$1.hex is not hex text, see above"
     run build/list <build/capture >build/listed || stop "build/list failed on samples/$1.hex"
     same "samples/$1.listing" build/listed "lm89_run on samples/$1.hex gives another listing than samples/$1.listing"
-    build/bin/lm89-listing <build/capture >build/listed || stop "the listing program failed on samples/$1.hex"
-    same "samples/$1.listing" build/listed "the listing program on samples/$1.hex gives another listing than samples/$1.listing"
+    run build/feed build/capture || stop "lm89_feed on parts of samples/$1.hex gives something else than lm89_run, see above"
     printf 'sample: %s ok\n' "$1"
 }
 
 blocks() {
-    python3 tests/blocks.py "$1" build/capture | build/bin/lm89-listing >build/listed || stop "the listing of blocks of $1 bytes failed"
+    python3 tests/blocks.py "$1" build/capture | build/bin/lm89 list >build/listed || stop "the listing of blocks of $1 bytes failed"
     same build/expected build/listed "blocks of $1 bytes give another listing than the whole capture"
     printf 'blocks of %s ok\n' "$1"
+}
+
+# The example of reading in blocks counts what the listing shows.
+streamed() {
+    awk '
+        $1 != "end" { first = index("0123456789ABCDEF", substr($2, 2)) - 1; alert += first % 2; tcrit += int(first / 2) % 2 }
+        $1 == "end" { printf "%d records, ALERT pulled after %d, T_CRIT_A after %d, code %d\n", $2, alert, tcrit, $3 }
+    ' build/expected >build/counted
+    run build/stream <build/capture >build/listed || stop "examples/stream.c failed on the large capture"
+    same build/counted build/listed "examples/stream.c counts otherwise than the listing"
+    printf 'c: stream ok\n'
 }
 
 scripts/build.sh
 scripts/inlined.sh || stop "the library is not inlined as it must be, see above"
 passes example examples/bench.c
-"${across[@]}" -x c++ -std=c++11 -fsyntax-only -Wall -Wextra -Werror -pedantic -Iinclude examples/bench.c || stop "include/lm89.h is not C++, see above"
-printf 'c++: header ok\n'
+other_version
+is_cpp examples/bench.c
+is_cpp examples/stream.c
+printf 'c++: headers ok\n'
 passes layout tests/c/layout.c
 passes run tests/c/run.c
+passes feed tests/c/feed.c
+passes write tests/c/write.c
 program list tests/c/list.c
+program stream examples/stream.c
 for hex in samples/*.hex; do
     sample "$(basename "$hex" .hex)"
 done
 python3 tests/large.py >build/capture
 run build/list <build/capture >build/expected
 [ "$(tail -n 1 build/expected)" = "end 20000 0" ] || stop "the large capture ends with '$(tail -n 1 build/expected)'"
+run build/feed build/capture || stop "lm89_feed on parts of the large capture gives something else than lm89_run, see above"
+streamed
 for size in 1 3 4 7 65536; do
     blocks "$size"
 done

@@ -1,8 +1,12 @@
-/* The structs of lm89.h against the library: where each field stands, and which fields each event moves. */
+/*
+ * The headers against the library and the documents: where each struct's fields stand, the number of each name, and which fields
+ * of a device each event moves.
+ */
 #include <string.h>
 
 #include "check.h"
 #include "lm89.h"
+#include "lm89_list.h"
 
 _Static_assert(sizeof(lm89_sensed) == 8, "size of lm89_sensed");
 _Static_assert(offsetof(lm89_sensed, local) == 0, "local");
@@ -22,15 +26,129 @@ _Static_assert(sizeof(lm89_answer) == 3, "size of lm89_answer");
 _Static_assert(offsetof(lm89_answer, code) == 0, "code");
 _Static_assert(offsetof(lm89_answer, first) == 1, "first");
 _Static_assert(offsetof(lm89_answer, second) == 2, "second");
+_Static_assert(sizeof(lm89_reader) == 44, "size of lm89_reader");
+_Static_assert(offsetof(lm89_reader, head) == 0, "head");
+_Static_assert(offsetof(lm89_reader, count) == 4, "count");
+_Static_assert(offsetof(lm89_reader, done) == 8, "done");
+_Static_assert(offsetof(lm89_reader, carried) == 12, "carried");
+_Static_assert(offsetof(lm89_reader, bytes) == 13, "bytes");
+_Static_assert(offsetof(lm89_reader, held) == 16, "held");
+_Static_assert(offsetof(lm89_reader, device) == 18, "device");
+_Static_assert(sizeof(lm89_fed) == 64, "size of lm89_fed");
+_Static_assert(offsetof(lm89_fed, consumed) == 0, "consumed");
+_Static_assert(offsetof(lm89_fed, written) == 8, "written");
+_Static_assert(offsetof(lm89_fed, code) == 16, "code of lm89_fed");
+_Static_assert(offsetof(lm89_fed, reader) == 20, "reader");
+_Static_assert(sizeof(lm89_listed) == 16, "size of lm89_listed");
+_Static_assert(offsetof(lm89_listed, consumed) == 0, "consumed of lm89_listed");
+_Static_assert(offsetof(lm89_listed, done) == 8, "done of lm89_listed");
+_Static_assert(offsetof(lm89_listed, code) == 12, "code of lm89_listed");
+_Static_assert(offsetof(lm89_listed, failure) == 13, "failure");
 
-#define SETTINGS 14
+/* Numbers as document 01 prints them; settings in rising order of the numbers at which they are written. */
+#define NAMES(name, number) _Static_assert((name) == (number), #name)
+
+NAMES(LM89_VARIANT_LM89C, 1);
+NAMES(LM89_VARIANT_LM89_1C, 2);
+NAMES(LM89_VARIANT_LM89_1D, 3);
+NAMES(LM89_ADDRESS_LM89C, 0x4C);
+NAMES(LM89_ADDRESS_LM89_1C, 0x4D);
+NAMES(LM89_ADDRESS_LM89_1D, 0x4D);
+NAMES(LM89_ADDRESS_ALERT_RESPONSE, 0x0C);
+NAMES(LM89_KIND_WRITE, 1);
+NAMES(LM89_KIND_READ, 2);
+NAMES(LM89_KIND_SEND, 3);
+NAMES(LM89_KIND_RECEIVE, 4);
+NAMES(LM89_KIND_CONVERSION, 5);
+NAMES(LM89_KIND_OPEN, 6);
+NAMES(LM89_KIND_POWER_ON, 7);
+NAMES(LM89_HEADER_BYTES, 6);
+NAMES(LM89_RECORD_BYTES, 4);
+NAMES(LM89_ANSWER_BYTES, 2);
+
+NAMES(LM89_READ_LOCAL, 0x00);
+NAMES(LM89_READ_REMOTE, 0x01);
+NAMES(LM89_READ_STATUS, 0x02);
+NAMES(LM89_READ_CONFIGURATION, 0x03);
+NAMES(LM89_READ_RATE, 0x04);
+NAMES(LM89_READ_LOCAL_HIGH, 0x05);
+NAMES(LM89_READ_LOCAL_LOW, 0x06);
+NAMES(LM89_READ_REMOTE_HIGH, 0x07);
+NAMES(LM89_READ_REMOTE_LOW, 0x08);
+NAMES(LM89_READ_REMOTE_LOW_BYTE, 0x10);
+NAMES(LM89_READ_MANUFACTURER, 0xFE);
+NAMES(LM89_READ_REVISION, 0xFF);
+NAMES(LM89_WRITE_CONFIGURATION, 0x09);
+NAMES(LM89_WRITE_RATE, 0x0A);
+NAMES(LM89_WRITE_LOCAL_HIGH, 0x0B);
+NAMES(LM89_WRITE_LOCAL_LOW, 0x0C);
+NAMES(LM89_WRITE_REMOTE_HIGH, 0x0D);
+NAMES(LM89_WRITE_REMOTE_LOW, 0x0E);
+NAMES(LM89_WRITE_ONE_SHOT, 0x0F);
+NAMES(LM89_REGISTER_OFFSET, 0x11);
+NAMES(LM89_REGISTER_OFFSET_LOW_BYTE, 0x12);
+NAMES(LM89_REGISTER_REMOTE_HIGH_LOW_BYTE, 0x13);
+NAMES(LM89_REGISTER_REMOTE_LOW_LOW_BYTE, 0x14);
+NAMES(LM89_REGISTER_REMOTE_TCRIT, 0x19);
+NAMES(LM89_REGISTER_LOCAL_TCRIT, 0x20);
+NAMES(LM89_REGISTER_HYSTERESIS, 0x21);
+NAMES(LM89_REGISTER_FILTER, 0xBF);
+
+NAMES(LM89_STATUS_LHIGH, 1 << 6);
+NAMES(LM89_STATUS_LLOW, 1 << 5);
+NAMES(LM89_STATUS_RHIGH, 1 << 4);
+NAMES(LM89_STATUS_RLOW, 1 << 3);
+NAMES(LM89_STATUS_OPEN, 1 << 2);
+NAMES(LM89_STATUS_RCRIT, 1 << 1);
+NAMES(LM89_STATUS_LCRIT, 1 << 0);
+NAMES(LM89_CONFIGURATION_ALERT_MASK, 1 << 7);
+NAMES(LM89_CONFIGURATION_STANDBY, 1 << 6);
+NAMES(LM89_CONFIGURATION_REMOTE_TCRIT_MASK, 1 << 4);
+NAMES(LM89_CONFIGURATION_LOCAL_TCRIT_MASK, 1 << 2);
+NAMES(LM89_CONFIGURATION_FAULT_QUEUE, 1 << 0);
+NAMES(LM89_FILTER_BITS, 1 << 2 | 1 << 1);
+NAMES(LM89_FILTER_COMPARATOR, 1 << 0);
+NAMES(LM89_ANSWER_ALERT, 1 << 0);
+NAMES(LM89_ANSWER_TCRIT, 1 << 1);
+NAMES(LM89_ANSWER_ACKNOWLEDGED, 1 << 2);
+NAMES(LM89_ANSWER_TAKEN, 1 << 3);
+
+NAMES(LM89_SETTING_CONFIGURATION, 0);
+NAMES(LM89_SETTING_RATE, 1);
+NAMES(LM89_SETTING_LOCAL_HIGH, 2);
+NAMES(LM89_SETTING_LOCAL_LOW, 3);
+NAMES(LM89_SETTING_REMOTE_HIGH, 4);
+NAMES(LM89_SETTING_REMOTE_LOW, 5);
+NAMES(LM89_SETTING_OFFSET, 6);
+NAMES(LM89_SETTING_OFFSET_LOW_BYTE, 7);
+NAMES(LM89_SETTING_REMOTE_HIGH_LOW_BYTE, 8);
+NAMES(LM89_SETTING_REMOTE_LOW_LOW_BYTE, 9);
+NAMES(LM89_SETTING_REMOTE_TCRIT, 10);
+NAMES(LM89_SETTING_LOCAL_TCRIT, 11);
+NAMES(LM89_SETTING_HYSTERESIS, 12);
+NAMES(LM89_SETTING_FILTER, 13);
+NAMES(LM89_SETTINGS, 14);
+
+NAMES(LM89_CODE_DONE, 0);
+NAMES(LM89_CODE_DEVICE_COUNT, 1);
+NAMES(LM89_CODE_VARIANT, 2);
+NAMES(LM89_CODE_KIND, 3);
+NAMES(LM89_CODE_OPERAND, 4);
+NAMES(LM89_CODE_PAST_END, 5);
+NAMES(LM89_CODE_CUT_SHORT, 6);
+NAMES(LM89_CODE_NO_ROOM, 7);
+NAMES(LM89_CODE_RANGE, 8);
+NAMES(LM89_LIST_WHOLE, 0);
+NAMES(LM89_LIST_NOT_READ, 1);
+NAMES(LM89_LIST_NOT_WRITTEN, 2);
+
 #define HERE LM89_ADDRESS_LM89C
 
-static const uint8_t written_at[SETTINGS] = {
+static const uint8_t written_at[LM89_SETTINGS] = {
     0x09, 0x0A, 0x0B, 0x0C, 0x0D, 0x0E, 0x11, 0x12, 0x13, 0x14, 0x19, 0x20, 0x21, 0xBF,
 };
 
-static const uint8_t kept[SETTINGS] = {
+static const uint8_t kept[LM89_SETTINGS] = {
     0xD5, 0xFF, 0xFF, 0xFF, 0xFF, 0xFF, 0xFF, 0xE0, 0xE0, 0xE0, 0xFF, 0xFF, 0x1F, 0x07,
 };
 
@@ -90,9 +208,14 @@ static bool refused(const lm89_device *device, uint8_t code, uint8_t kind, uint8
     return is(fenced_step(&stepped, kind, a, b, c), code, 0, 0) && same(&stepped, device);
 }
 
+static void test_version(void)
+{
+    CHECK(lm89_version() == 65536 * LM89_VERSION_MAJOR + LM89_VERSION_MINOR);
+}
+
 static void test_power_on(void)
 {
-    static const uint8_t settings[SETTINGS] = {0, 8, 70, 0, 70, 0, 0, 0, 0, 0, 110, 85, 10, 0};
+    static const uint8_t settings[LM89_SETTINGS] = {0, 8, 70, 0, 70, 0, 0, 0, 0, 0, 110, 85, 10, 0};
     for (unsigned variant = 0; variant < 256; variant++) {
         lm89_device expected = zeros();
         if (1 <= variant && variant <= 3) {
@@ -100,7 +223,7 @@ static void test_power_on(void)
             memcpy(expected.settings, settings, sizeof settings);
         }
         if (variant == LM89_VARIANT_LM89_1D) {
-            expected.settings[11] = 105;
+            expected.settings[LM89_SETTING_LOCAL_TCRIT] = 105;
         }
         lm89_device device = lm89_power_on((uint8_t)variant);
         CHECK(same(&device, &expected));
@@ -124,7 +247,7 @@ static void test_pointer(void)
 
 static void test_writes(void)
 {
-    for (unsigned i = 0; i < SETTINGS; i++) {
+    for (unsigned i = 0; i < LM89_SETTINGS; i++) {
         for (unsigned value = 0; value < 256; value++) {
             lm89_device device = fresh();
             lm89_device expected = device;
@@ -170,7 +293,7 @@ static void test_faults(void)
     fenced_step(&device, LM89_KIND_CONVERSION, 0x19, 0x19, 0x00);
     CHECK(device.sensed.faults == 0);
     CHECK(device.sensed.live == 0x00);
-    CHECK(device.status == 0x08);
+    CHECK(device.status == LM89_STATUS_RLOW);
 }
 
 static void test_status_read(void)
@@ -178,24 +301,25 @@ static void test_status_read(void)
     lm89_device device = fresh();
     fenced_step(&device, LM89_KIND_CONVERSION, 0x47, 0x19, 0x00);
     lm89_device expected = device;
-    CHECK(expected.status == 0x40);
+    CHECK(expected.status == LM89_STATUS_LHIGH);
     expected.status = 0;
-    expected.pointer = 0x02;
-    expected.settings[0] = 0x80;
-    CHECK(is(fenced_step(&device, LM89_KIND_READ, HERE, 0x02, 0), LM89_CODE_DONE, LM89_ANSWER_ACKNOWLEDGED, 0x40));
+    expected.pointer = LM89_READ_STATUS;
+    expected.settings[LM89_SETTING_CONFIGURATION] = LM89_CONFIGURATION_ALERT_MASK;
+    lm89_answer answer = fenced_step(&device, LM89_KIND_READ, HERE, LM89_READ_STATUS, 0);
+    CHECK(is(answer, LM89_CODE_DONE, LM89_ANSWER_ACKNOWLEDGED, LM89_STATUS_LHIGH));
     CHECK(same(&device, &expected));
 }
 
 static void test_pending(void)
 {
     lm89_device device = fresh();
-    fenced_step(&device, LM89_KIND_WRITE, HERE, 0x09, 0x40);
+    fenced_step(&device, LM89_KIND_WRITE, HERE, LM89_WRITE_CONFIGURATION, LM89_CONFIGURATION_STANDBY);
     lm89_device expected = device;
     CHECK(is(fenced_step(&device, LM89_KIND_CONVERSION, 0x19, 0x19, 0x00), LM89_CODE_DONE, 0, 0));
     CHECK(same(&device, &expected));
-    expected.pointer = 0x0F;
+    expected.pointer = LM89_WRITE_ONE_SHOT;
     expected.pending = true;
-    CHECK(is(fenced_step(&device, LM89_KIND_WRITE, HERE, 0x0F, 0x5A), LM89_CODE_DONE, LM89_ANSWER_ACKNOWLEDGED, 0));
+    CHECK(is(fenced_step(&device, LM89_KIND_WRITE, HERE, LM89_WRITE_ONE_SHOT, 0x5A), LM89_CODE_DONE, LM89_ANSWER_ACKNOWLEDGED, 0));
     CHECK(same(&device, &expected));
     expected.pending = false;
     expected.sensed.local = 0x19;
@@ -208,10 +332,10 @@ static void test_pending(void)
 static lm89_device busy(void)
 {
     lm89_device device = fresh();
-    fenced_step(&device, LM89_KIND_WRITE, HERE, 0x09, 0x40);
-    fenced_step(&device, LM89_KIND_WRITE, HERE, 0x0F, 0x00);
+    fenced_step(&device, LM89_KIND_WRITE, HERE, LM89_WRITE_CONFIGURATION, LM89_CONFIGURATION_STANDBY);
+    fenced_step(&device, LM89_KIND_WRITE, HERE, LM89_WRITE_ONE_SHOT, 0x00);
     fenced_step(&device, LM89_KIND_OPEN, 0x60, 0, 0);
-    fenced_step(&device, LM89_KIND_WRITE, HERE, 0x0F, 0x00);
+    fenced_step(&device, LM89_KIND_WRITE, HERE, LM89_WRITE_ONE_SHOT, 0x00);
     CHECK(device.pending && device.sensed.llatch && device.sensed.rlatch);
     CHECK(device.status == 0x57 && device.sensed.live == 0x57 && device.sensed.faults == 1);
     return device;
@@ -275,12 +399,12 @@ static void test_ranges(void)
     OUT_OF_RANGE(variant, 4);
     OUT_OF_RANGE(pointer, 0x30);
     OUT_OF_RANGE(status, 0x80);
-    OUT_OF_RANGE(settings[0], 0x00);
+    OUT_OF_RANGE(settings[LM89_SETTING_CONFIGURATION], 0x00);
     OUT_OF_RANGE(sensed.live, 0x80);
     OUT_OF_RANGE(sensed.faults, 4);
     OUT_OF_RANGE(sensed.remote, 1024);
     OUT_OF_RANGE(sensed.remote, -1025);
-    for (unsigned i = 0; i < SETTINGS; i++) {
+    for (unsigned i = 0; i < LM89_SETTINGS; i++) {
         if (kept[i] != 0xFF) {
             OUT_OF_RANGE(settings[i], 0xFF);
         }
@@ -289,6 +413,7 @@ static void test_ranges(void)
 
 int main(void)
 {
+    test_version();
     test_power_on();
     test_pointer();
     test_writes();
