@@ -118,7 +118,7 @@ static int list_file(const char *file)
     const char *name = standard ? "standard input" : file;
     int input = standard ? STDIN_FILENO : open(file, O_RDONLY);
     if (input < 0) {
-        say("%s: cannot be opened: %s", name, strerror(errno));
+        say("%s: cannot be opened: %s; give the file of a capture, or none for standard input", name, strerror(errno));
         return FAILED;
     }
     lm89_listed listed = lm89_list(input, STDOUT_FILENO);

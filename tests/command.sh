@@ -127,7 +127,7 @@ test_names() {
     cp "$here/01-document" "$here/--help"
     ends 'a name like an option' 0 '' in_folder "$here" "$PWD/$lm89" list -- --help
     wrote $listing
-    ends 'no such file' 2 "lm89: $here/nowhere: cannot be opened: No such file or directory" "$lm89" list "$here/nowhere"
+    ends 'no such file' 2 "lm89: $here/nowhere: cannot be opened: No such file or directory; give *" "$lm89" list "$here/nowhere"
     wrote_nothing
     ends 'a folder' 2 "lm89: $here: cannot be read: Is a directory; *" "$lm89" list "$here"
     wrote_nothing
@@ -232,7 +232,7 @@ test_make_list() {
     wrote samples/23-refused-kind.listing
     make_refuses 'refused raw bytes' "lm89: $here/23-refused-kind: byte 26 is refused, *" "$here/23-refused-kind"
     wrote samples/23-refused-kind.listing
-    make_refuses 'no such file' 'lm89: nowhere: cannot be opened: No such file or directory' nowhere
+    make_refuses 'no such file' 'lm89: nowhere: cannot be opened: No such file or directory; give *' nowhere
     make_refuses 'no such hex text' 'hex: nowhere.hex: cannot be read: No such file or directory: *' nowhere.hex
     make_refuses 'a folder' 'lm89: samples: cannot be read: Is a directory; *' samples
     mkdir -p "$here/folder.hex"
