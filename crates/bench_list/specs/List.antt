@@ -4,7 +4,7 @@
 use Prim.Native.Nat.{ℕ}
 use mathlib.Core.Path.{_≡_}
 use mathlib.Core.Bool.{Bool, false, cond, _&&_}
-use mathlib.Core.List.{List, []}
+use mathlib.Core.List.{List}
 use lib.Dec.{ltb, eqb}
 use lib.ListN.{length}
 use Rattle.capture.specs.declared.Reader.{Reader}
@@ -13,7 +13,7 @@ use Rattle.capture.specs.Reader.{finishOf}
 use Rattle.capture.specs.Whole.{wholeOf}
 use Rattle.capture_laws.specs.Schedule.{joined, Bytes}
 use Rattle.capture_laws.specs.Places.{consumedOf}
-use Rattle.lines_laws.specs.Turns.{Turn, End, Output}
+use Rattle.lines_laws.specs.Turns.{Turn, Unread, End, Output}
 use Rattle.bench_list.specs.declared.Listed.{Listed}
 use Rattle.bench_list.specs.declared.Went.{Went}
 
@@ -41,19 +41,17 @@ listedOf capture =
 
 -- ---- the promise
 
--- what may be left unread: nothing, unless a byte was refused
-abbrev pub Unread : Reader → List ℕ → Type 0
-Unread last rest = last .held ≡ 0 → rest ≡ []
-
--- parts were read, turns in order took them, and what they and the end line wrote is the output, whatever was left unread
-pub record Whole (last : Reader) : Type 0 where
+-- parts were read, turns in order took them, and what these and the end line wrote is the output, whatever was left unread
+pub record Whole (r : Listed) : Type 0 where
   pub parts : List (List ℕ)
   pub output : List ℕ
+  pub last : Reader
   pub bytes : Bytes (joined parts)
   pub written : (rest : List ℕ) → Unread last rest → Output parts rest output last
+  pub told : r ≡ toldOf last (finishOf last)
 
 pub data Lists : Listed → Type 0 where
-  whole : {last : Reader} → Whole last → Lists (toldOf last (finishOf last))
+  whole : {r : Listed} → Whole r → Lists r
   not-read : Lists (failedOf notRead)
   not-written : Lists (failedOf notWritten)
 

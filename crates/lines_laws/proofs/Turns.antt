@@ -1,6 +1,6 @@
 -- `lists`: what the program's turns and its end line write is the listing of the whole capture, whatever the parts it was read in and
 -- whatever it left unread; `last-whole`, `last-finishing`: the state that they leave is the whole capture's, and so is its finishing code.
--- `never-full`: the program's buffers hold all that a turn gives.
+-- `any-rest`: they leave it whatever is unread. `never-full`: the program's buffers hold all that a turn gives.
 -- Assumes nothing.
 use Prim.Native.Nat.{ℕ, _+_, _*_}
 use mathlib.Core.Path.{_≡_, refl, sym, ap, _∙_}
@@ -9,7 +9,9 @@ use mathlib.Core.List.{List, [], _++_, append-assoc, append-nil}
 use native.Mathlib.Omega.{arith}
 use lib.ListN.{length, take, drop}
 use lib.Seq.{take-at}
-use borrow.Author.Tests.{leb-true}
+use lib.Dec.{eqb}
+use borrow.Author.Tests.{leb-true, eqb-true, eqb-false}
+use Rattle.laws.proofs.Choices.{by-test}
 use Rattle.capture.specs.declared.Reader.{Reader}
 use Rattle.capture.specs.declared.Fed.{Fed}
 use Rattle.capture.specs.Reader.{Out, freshOf, callOf, finishOf, rangesOf, Meets}
@@ -24,7 +26,7 @@ use Rattle.capture_laws.proofs.Consumed.{run-consumed}
 use Rattle.capture_laws.proofs.Run.{runOf, run-append, run-held, run-ranges}
 use Rattle.capture_laws.proofs.Sections.{whole-run, whole-finishing}
 use Rattle.lines.specs.Lines.{linesOf, endLineOf}
-use Rattle.lines_laws.specs.Turns.{Turn, Turns, Output}
+use Rattle.lines_laws.specs.Turns.{Turn, Turns, Unread, Output}
 use Rattle.lines_laws.specs.Turns.Turns.{at-end, refused, goes-on}
 use Rattle.lines_laws.proofs.Numbered.{laid-front, lined-front, end-short, not-round, lines-all, lines-append}
 use Rattle.capture_laws.proofs.Fours.{run-even, run-code, answers-fit, done-fits}
@@ -127,6 +129,19 @@ turns-list (goes-on {s = s} {part = part} {rest = rest} {parts = parts} t z turn
     let p = one-turn t b h in
     let q = turns-list turns (bytes-right part (joined parts ++ rest) bytes) (turn-ranges t b h) in
     rw (append-assoc part (joined parts) rest) (after-run part (joined parts ++ rest) p q)
+
+-- ---- what is unread
+
+-- turns are the same whatever is unread
+pub any-rest : {s last : Reader} {parts : List (List ℕ)} {rest text : List ℕ} → Turns s parts rest text last → Bytes (joined parts)
+    → rangesOf s ≡ true → (other : List ℕ) → Unread last other → Turns s parts other text last
+any-rest (at-end {r = r} t) k h other u =
+    by-test (eqb (r .code) 0)
+    (λ z. rw (u (sym (turn-held t k h) ∙ eqb-true (r .code) 0 z)) (at-end t))
+    (λ z. refused t (eqb-false (r .code) 0 z))
+any-rest (refused t n) k h other u = refused t n
+any-rest (goes-on {part = part} {parts = parts} t z turns) k h other u =
+    goes-on t z (any-rest turns (bytes-right part (joined parts) k) (turn-ranges t (bytes-left part (joined parts) k) h) other u)
 
 -- ---- the theorem
 

@@ -51,6 +51,10 @@ pub data Turns : Reader → List (List ℕ) → List ℕ → List ℕ → Reader
   goes-on : {s last : Reader} {part rest text texts : List ℕ} {parts : List (List ℕ)} {r : Fed} → Turn s part r text → r .code ≡ 0
       → Turns (r .reader) parts rest texts last → Turns s (part ∷ parts) rest (text ++ texts) last
 
+-- what may be unread behind the state that turns leave: nothing, unless a byte was refused
+abbrev pub Unread : Reader → List ℕ → Type 0
+Unread last rest = last .held ≡ 0 → rest ≡ []
+
 -- ---- the output
 
 -- the end line of a state
