@@ -1,15 +1,16 @@
 -- Every byte that is taken stands in the state: `run-consumed`, of a run; `whole-consumed`, of a whole capture, whose end state then tells
--- how much of it was consumed. `consumed-most`: a state in its ranges has not taken more than a header and all its records.
+-- how much of it was consumed; and, `refused-next`, if it is refused, the byte behind those is the refused one.
+-- `consumed-most`: a state in its ranges has not taken more than a header and all its records.
 -- Assumes nothing.
 use Prim.Native.Nat.{ℕ, _+_, _*_, _^_, _≤_, _<_}
-use mathlib.Core.Path.{_≡_, sym}
-use mathlib.Core.Bool.{true}
+use mathlib.Core.Path.{_≡_, refl, sym, ap, _∙_}
+use mathlib.Core.Bool.{Bool, true, false, cond, _&&_}
 use mathlib.Core.List.{List, [], _∷_}
 use native.Mathlib.Omega.{arith}
 use lib.Dec.{ltb, eqb}
-use lib.ListN.{getD}
+use lib.ListN.{length, getD}
 use borrow.Author.Tests.{leb-true, ltb-true, ltb-false, eqb-true, eqb-false}
-use Rattle.laws.proofs.Choices.{cond-ind, by-test}
+use Rattle.laws.proofs.Choices.{clash, cond-ind, by-test}
 use Rattle.device.specs.Ranges.{variantOf}
 use Rattle.record.specs.declared.Record.{Record}
 use Rattle.record.specs.declared.Record.the-variants.{Valid, Refused}
@@ -17,12 +18,17 @@ use Rattle.record.specs.declared.Refusal.the-variants.{Kind, Operand}
 use Rattle.record.specs.Record.{decodeOf, codeOf}
 use Rattle.capture.specs.declared.Reader.{Reader}
 use Rattle.capture.specs.Sensor.{countPlace}
-use Rattle.capture.specs.Reader.{Turn, freshOf, headerLengthOf, inHeader, headOf, judgedOf, recordOf, turnOf, rangesOf}
-use Rattle.capture.specs.Whole.{wholeOf}
-use Rattle.capture_laws.specs.Places.{consumedOf}
+use Rattle.capture.specs.Reader.{Turn, Out, freshOf, headerLengthOf, headerDone, inHeader, headOf, judgedOf, recordOf, turnOf, rangesOf, callOf}
+use Rattle.capture.specs.Whole.{Whole, wholeOf}
+use Rattle.capture_laws.specs.Codes.{lastingOf}
+use Rattle.capture_laws.specs.Places.{Refuses, consumedOf}
 use Rattle.capture.proofs.InRange.{ranges, count-fits}
 use Rattle.capture_laws.proofs.Run.{runOf, run-nil, run-on, run-stop}
-use Rattle.capture_laws.proofs.Sections.{whole-run}
+use Rattle.capture_laws.proofs.Sections.{outcome, whole-run, whole-finishing}
+use Rattle.capture_laws.proofs.Cuts.{fresh-ranges}
+use Rattle.capture_laws.proofs.Rooms.{feed-fits}
+use Rattle.capture_laws.proofs.Fours.{run-code}
+use Rattle.capture_laws.proofs.Places.{stands}
 
 -- ---- one byte
 
@@ -101,3 +107,35 @@ consumed-most s h =
     let few = leb-true (s .carried) 3 (place .few) in
     let done = leb-true (s .done) (s .count) (place .done) in
     omega (arith, count-fits s h)
+
+-- ---- the byte behind them
+
+not-lasting : (t : Bool) → lastingOf (cond t 0 6) ≡ true → ⊥
+not-lasting true e = clash e
+not-lasting false e = clash e
+
+module _ (xs : List ℕ) where
+  abbrev w : Whole
+  w = wholeOf xs
+
+  -- a call with room for every answer
+  whole-call : callOf freshOf xs (length (w .answers)) ≡ outcome w
+  whole-call =
+      let run = whole-run xs in
+      let fits = ap (λ (o : Out). length (o .answers)) run in
+      rw fresh-ranges (feed-fits freshOf xs (length (w .answers)) (omega arith) ∙ run)
+
+  -- a lasting finishing code is the one that the capture was refused with
+  refused-code : lastingOf (w .finishing) ≡ true → w .code ≡ w .finishing
+  refused-code l =
+      let held : w .code ≡ w .reader .held = rw (whole-run xs) at (run-code freshOf xs) in
+      let finishing = whole-finishing xs in
+      by-test (eqb (w .reader .held) 0)
+      (λ z. absurd (not-lasting (headerDone (w .reader) && eqb (w .reader .done) (w .reader .count)) (rw z at (rw (sym finishing) at l))))
+      (λ z. held ∙ rw z at finishing)
+
+  pub refused-next : lastingOf (w .finishing) ≡ true → (w .code ≡ w .finishing) × Refuses freshOf xs (length (w .answers)) (outcome w)
+  refused-next l =
+      let code = refused-code l in
+      let place = rw whole-call at (stands freshOf xs (length (w .answers))) in
+      (code, place .refuses refl (rw code l))
