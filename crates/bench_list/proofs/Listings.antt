@@ -19,7 +19,7 @@ use Rattle.lines_laws.specs.Turns.{answerRoom, textRoom, endRoom, Unread, Outpu
 use Rattle.lines_laws.proofs.Turns.{last-whole, last-finishing, any-rest, lists}
 use Rattle.lines_laws.proofs.Endings.{turns-end}
 use Rattle.bench_list.specs.declared.Listed.{Listed}
-use Rattle.bench_list.specs.List.{toldOf, listedOf, Whole, Lists}
+use Rattle.bench_list.specs.List.{toldOf, listedOf, Listing, Lists}
 use Rattle.bench_list.specs.List.Lists.{whole, not-read, not-written}
 
 -- ---- one listing
@@ -33,19 +33,19 @@ told-as {parts} {rest} o k =
     λ i. record { consumed = consumed i; done = same i .done; code = code i; failure = 0 }
 
 -- of every result that is told as whole there are such turns
-pub when-whole : {r : Listed} → Lists r → r .failure ≡ 0 → Whole r
+pub when-whole : {r : Listed} → Lists r → r .failure ≡ 0 → Listing r
 when-whole (whole w) z = w
 when-whole not-read z = absurd (omega arith)
 when-whole not-written z = absurd (omega arith)
 
-pub is-listing : {r : Listed} (w : Whole r) (rest : List ℕ) → Unread (w .last) rest → Bytes rest
+pub is-listing : {r : Listed} (w : Listing r) (rest : List ℕ) → Unread (w .last) rest → Bytes rest
     → (r ≡ listedOf (joined (w .parts) ++ rest)) × (w .output ≡ captureListingOf (joined (w .parts) ++ rest))
 is-listing w rest u k =
     let o = w .written rest u in
     let bytes = bytes-join (joined (w .parts)) rest (w .bytes) k in
     (w .told ∙ told-as o bytes, lists o bytes)
 
-pub one-listing : {r s : Listed} (v : Whole r) (w : Whole s) (rest other : List ℕ) → Unread (v .last) rest → Unread (w .last) other → Bytes rest
+pub one-listing : {r s : Listed} (v : Listing r) (w : Listing s) (rest other : List ℕ) → Unread (v .last) rest → Unread (w .last) other → Bytes rest
     → Bytes other → joined (v .parts) ++ rest ≡ joined (w .parts) ++ other → (r ≡ s) × (v .output ≡ w .output)
 one-listing v w rest other t u k l same =
     let p = is-listing v rest t k in
@@ -58,7 +58,7 @@ one-listing v w rest other t u k l same =
 buffer : (room : ℕ) → (lent : List ℕ) × (room ≤ length lent)
 buffer room = (replicate room 0, omega (arith, length-replicate {A = ℕ} room 0))
 
-of-ends : {input : List ℕ} → Ends input → Bytes input → Whole (listedOf input)
+of-ends : {input : List ℕ} → Ends input → Bytes input → Listing (listedOf input)
 of-ends {input} e k =
     let o = e .written in
     let bytes : Bytes (joined (e .used) ++ e .rest) = rw (e .same) k in
@@ -79,7 +79,7 @@ of-ends {input} e k =
       told = ap listedOf (sym (e .same)) ∙ sym (told-as o bytes);
     }
 
-pub allowed : (parts : List (List ℕ)) → Read parts → Bytes (joined parts) → Whole (listedOf (joined parts))
+pub allowed : (parts : List (List ℕ)) → Read parts → Bytes (joined parts) → Listing (listedOf (joined parts))
 allowed parts h k =
     let answers = buffer answerRoom in
     let text = buffer textRoom in
@@ -87,7 +87,7 @@ allowed parts h k =
     of-ends (turns-end (answers .0) (text .0) (answers .1) (text .1) (line .0) (line .1) parts h) k
 
 -- two records, read in two parts: 14 bytes consumed, 2 records done, finishing code 0
-pub two-parts : Whole (record { consumed = 14; done = 2; code = 0; failure = 0 })
+pub two-parts : Listing (record { consumed = 14; done = 2; code = 0; failure = 0 })
 unfolding captureOpened
 two-parts =
     allowed

@@ -6,7 +6,8 @@ use mathlib.Core.Bool.{Bool, true, false, _&&_}
 use mathlib.Core.List.{List, [], _∷_, _++_, append-assoc, append-nil}
 use native.Mathlib.Omega.{arith}
 use lib.Dec.{ltb, eqb}
-use lib.ListN.{length}
+use lib.IntN.{ℤ, pos, negsuc}
+use lib.ListN.{length, take}
 use borrow.Author.Tests.{ltb-true, ltb-false, eqb-true, eqb-false}
 use Rattle.laws.proofs.Choices.{clash, by-test, and-left, and-right}
 use Rattle.capture.specs.declared.Reader.{Reader}
@@ -21,9 +22,8 @@ use Rattle.lines_laws.specs.Turns.Turns.{at-end, refused, goes-on}
 use Rattle.lines_laws.proofs.Turns.{turn-ranges, turn-taken, any-rest}
 use Rattle.bench_list.specs.declared.Listed.{Listed}
 use Rattle.bench_list.specs.declared.Went.{Went}
-use Rattle.bench_list.specs.List.{failedOf, wroteOf, endedOf, Took, Turned, Ended, Lists}
-use Rattle.bench_list.specs.List.Turned.{took, not-read}
-use Rattle.bench_list.specs.List.Lists.{whole, not-written}
+use Rattle.bench_list.specs.List.{failedOf, wroteOf, endedOf, Took, TookRead, Turned, Ended, Lists}
+use Rattle.bench_list.specs.List.Lists.{whole, not-read, not-written}
 
 -- ---- one turn
 
@@ -54,18 +54,24 @@ good-took {part = part} t true e z =
     }
 good-took t false e z = absurd (omega (arith, ap (λ (w : Went). w .failure) e))
 
+good-read : (s : Reader) {w : Went} (got : ℤ) (buffer : List ℕ) → TookRead s got buffer w → w .failure ≡ 0 → Good s w
+good-read s (pos n) buffer t z = good-took t (t .written) (t .told) z
+good-read s (negsuc n) buffer e z = absurd (omega (arith, ap (λ (w : Went). w .failure) e))
+
 pub good : {s : Reader} {w : Went} → Turned s w → w .failure ≡ 0 → Good s w
-good (took t) z = good-took t (t .written) (t .told) z
-good not-read z = absurd (omega arith)
+good {s} t = good-read s (t .got) (t .buffer) (t .took)
 
 -- and one that did
 bad-took : {w : Went} (s : Reader) (goes written : Bool) → w ≡ wroteOf s goes written → (w .failure ≡ 0 → ⊥) → Lists (failedOf (w .failure))
 bad-took s goes true e n = absurd (n (ap (λ (w : Went). w .failure) e))
 bad-took s goes false e n = rw (ap (λ (w : Went). w .failure) e) not-written
 
+bad-read : (s : Reader) (w : Went) (got : ℤ) (buffer : List ℕ) → TookRead s got buffer w → (w .failure ≡ 0 → ⊥) → Lists (failedOf (w .failure))
+bad-read s w (pos n) buffer t f = bad-took (t .r .reader) (more (take n buffer) (t .r)) (t .written) (t .told) f
+bad-read s w (negsuc n) buffer e f = rw (ap (λ (w : Went). w .failure) e) not-read
+
 pub bad : {s : Reader} {w : Went} → Turned s w → (w .failure ≡ 0 → ⊥) → Lists (failedOf (w .failure))
-bad (took {part = part} t) n = bad-took (t .r .reader) (more part (t .r)) (t .written) (t .told) n
-bad not-read n = Lists.not-read
+bad {s} {w} t = bad-read s w (t .got) (t .buffer) (t .took)
 
 -- ---- turns so far
 

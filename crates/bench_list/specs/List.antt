@@ -1,12 +1,13 @@
 -- Listing in full, from one file descriptor to another: what the call tells, and of which turns. What the system delivered at a read, and
--- what it stored at a write, is in no promise: `parts` are the bytes that the program was handed, `output` those that it handed on.
+-- what it stored at a write, is in no promise: `parts` are the bytes that the call was handed, `output` those that it handed on.
 -- Assumes nothing.
 use Prim.Native.Nat.{ℕ}
 use mathlib.Core.Path.{_≡_}
 use mathlib.Core.Bool.{Bool, false, cond, _&&_}
 use mathlib.Core.List.{List}
 use lib.Dec.{ltb, eqb}
-use lib.ListN.{length}
+use lib.IntN.{ℤ, pos, negsuc}
+use lib.ListN.{length, take}
 use Rattle.capture.specs.declared.Reader.{Reader}
 use Rattle.capture.specs.declared.Fed.{Fed}
 use Rattle.capture.specs.Reader.{finishOf}
@@ -41,8 +42,9 @@ listedOf capture =
 
 -- ---- the promise
 
--- parts were read, turns in order took them, and what these and the end line wrote is the output, whatever was left unread
-pub record Whole (r : Listed) : Type 0 where
+-- a whole listing: parts were read, turns in order took them, what these and the end line wrote is the output, and the result tells of the
+-- reader that they leave, whatever may have been left unread
+pub record Listing (r : Listed) : Type 0 where
   pub parts : List (List ℕ)
   pub output : List ℕ
   pub last : Reader
@@ -50,8 +52,9 @@ pub record Whole (r : Listed) : Type 0 where
   pub written : (rest : List ℕ) → Unread last rest → Output parts rest output last
   pub told : r ≡ toldOf last (finishOf last)
 
+-- what the call promises of its result
 pub data Lists : Listed → Type 0 where
-  whole : {r : Listed} → Whole r → Lists r
+  whole : {r : Listed} → Listing r → Lists r
   not-read : Lists (failedOf notRead)
   not-written : Lists (failedOf notWritten)
 
@@ -70,14 +73,26 @@ pub record Took (s : Reader) (part : List ℕ) (w : Went) : Type 0 where
   pub written : Bool
   pub told : w ≡ wroteOf (r .reader) (ltb 0 (length part) && eqb (r .code) 0) written
 
-pub data Turned (s : Reader) : Went → Type 0 where
-  took : {part : List ℕ} {w : Went} → Took s part w → Turned s w
-  not-read : Turned s (record { reader = s; failure = notRead; goes = false })
+-- no part was read
+abbrev pub notReadOf : Reader → Went
+notReadOf s = record { reader = s; failure = notRead; goes = false }
 
--- the last state and its finishing code, if the end line was written
+-- by what a read answered: below 0, that it failed; else how many bytes it put to the front of the buffer
+abbrev pub TookRead : Reader → ℤ → List ℕ → Went → Type 0
+TookRead s (negsuc n) buffer w = w ≡ notReadOf s
+TookRead s (pos n) buffer w = Took s (take n buffer) w
+
+-- a read, and what came of it
+pub record Turned (s : Reader) (w : Went) : Type 0 where
+  pub got : ℤ
+  pub buffer : List ℕ
+  pub took : TookRead s got buffer w
+
+-- the result after the end line, by whether it was written
 abbrev pub endedOf : Reader → ℕ → Bool → Listed
 endedOf last code written = cond written (toldOf last code) (failedOf notWritten)
 
+-- an end line, and the result after it
 pub record Ended (last : Reader) (r : Listed) : Type 0 where
   pub line : List ℕ
   pub end : End last line

@@ -4,7 +4,7 @@ ghost use Prim.Native.Nat.{_≤_};
 ghost use mathlib.Core.Path.{_≡_};
 ghost use lib.ListN.{length};
 ghost use Rattle.lines_laws.specs.Turns.{readMost};
-ghost use Rattle.bench_list.specs.List.{failedOf, toldOf, endedOf, wroteOf, Took, Turned, Ended, Lists};
+ghost use Rattle.bench_list.specs.List.{failedOf, toldOf, endedOf, wroteOf, Took, TookRead, Turned, Ended, Lists};
 
 pub const WHOLE: u8 = 0;
 
@@ -62,12 +62,11 @@ fn list_part(output: i32, reader: Reader, part: &[u8]) -> Went
     wrote(fed.reader, (part.len() > 0) & (fed.code == 0), written)
 }
 
-// Reads once, and lists what came.
-fn turn(input: i32, output: i32, reader: Reader) -> Went
-    ensures { λ w. ⌜ Turned reader w ⌝ }
+// Lists what a read gave: -1, or how many bytes it put to the front of the buffer.
+fn list_read(output: i32, reader: Reader, got: isize, buffer: &[u8]) -> Went
+    requires { ⌜ length (now buffer) ≤ readMost ⌝ }
+    ensures { λ w. ⌜ TookRead reader got (now (buffer .entry)) w ⌝ }
 {
-    let mut bytes = io::large_buffer();
-    let got = libc::read(input, &mut bytes);
     if got < 0 {
         return Went {
             reader,
@@ -75,8 +74,17 @@ fn turn(input: i32, output: i32, reader: Reader) -> Went
             goes: false,
         };
     }
-    let count = io::count(got, &bytes);
-    list_part(output, reader, &bytes[..count])
+    let count = io::count(got, buffer);
+    list_part(output, reader, &buffer[..count])
+}
+
+// Reads once, and lists what came.
+fn turn(input: i32, output: i32, reader: Reader) -> Went
+    ensures { λ w. ⌜ Turned reader w ⌝ }
+{
+    let mut buffer = io::large_buffer();
+    let got = libc::read(input, &mut buffer);
+    list_read(output, reader, got, &buffer)
 }
 
 fn failed(failure: u8) -> Listed

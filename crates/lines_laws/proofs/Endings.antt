@@ -1,4 +1,4 @@
--- `turns-end`: however an input is cut into parts of at most 65,536 bytes, and whatever buffers of the program's sizes are lent, its turns
+-- `turns-end`: however an input is cut into parts of at most 65,536 bytes, and whatever buffers of the listing's sizes are lent, its turns
 -- come to an end with an output, for which `lists` holds.
 -- Assumes nothing.
 use Prim.Native.Nat.{ℕ, _≤_}

@@ -1,6 +1,6 @@
--- `lists`: what the program's turns and its end line write is the listing of the whole capture, whatever the parts it was read in and
+-- `lists`: what the listing's turns and its end line write is the listing of the whole capture, whatever the parts it was read in and
 -- whatever it left unread; `last-whole`, `last-finishing`: the state that they leave is the whole capture's, and so is its finishing code.
--- `any-rest`: they leave it whatever is unread. `never-full`: the program's buffers hold all that a turn gives.
+-- `any-rest`: they leave it whatever is unread. `never-full`: the listing's buffers hold all that a turn gives.
 -- Assumes nothing.
 use Prim.Native.Nat.{ℕ, _+_, _*_}
 use mathlib.Core.Path.{_≡_, refl, sym, ap, _∙_}

@@ -1,4 +1,4 @@
--- The listing program's turns over a capture, and what they write. A call is known by what it promises, and by nothing else.
+-- The listing's turns over a capture, and what they write. A call is known by what it promises, and by nothing else.
 -- Assumes nothing.
 use Prim.Native.Nat.{ℕ, _≤_}
 use mathlib.Core.Path.{_≡_}
@@ -10,7 +10,7 @@ use Rattle.capture.specs.Reader.{freshOf, finishOf, FedWith}
 use Rattle.capture_laws.specs.Schedule.{joined}
 use Rattle.lines.specs.Lines.{endLineOf, nextOf, Lined, Listed}
 
--- ---- the program's buffers
+-- ---- the listing's buffers
 
 -- bytes read at once, at most
 abbrev pub readMost : ℕ
@@ -29,7 +29,7 @@ endRoom = 17
 -- ---- turns
 
 -- one turn: a part is read and fed, and the lines of its answers are written, numbered on from the records done before it; `lent` and
--- `blank` are the program's buffers before the two calls, `answers` and `page` after them
+-- `blank` are the listing's buffers before the two calls, `answers` and `page` after them
 pub record Turn (s : Reader) (part : List ℕ) (r : Fed) (text : List ℕ) : Type 0 where
   pub lent : List ℕ
   pub answers : List ℕ

@@ -1,6 +1,7 @@
 -- Assumes nothing.
 use borrow.Author.Needs.{needs}
-use Rattle.bench_list.specs.List.Turned.{took, not-read}
+use mir.Syntax.{w64}
+use mir.Val.{toZ, ofZ}
 use Rattle.bench_list.proofs.turn.Statement.{statement}
 use Rattle.bench_list.proofs.turn.Tie as tie
 
@@ -13,26 +14,16 @@ slice-aggregate-read c = search needs
 read-requires : tie.Need-read-requires
 read-requires c κs = search needs
 
+slice-aggregate-list-read : tie.Need-slice-aggregate-list-read
+slice-aggregate-list-read c = search needs
+
+list-read-requires : tie.Need-list-read-requires
+list-read-requires c κs = search needs
+
 returns : tie.Need-returns
-returns c = not-read
-
-slice-aggregate-count : tie.Need-slice-aggregate-count
-slice-aggregate-count c = search needs
-
-count-requires : tie.Need-count-requires
-count-requires c κs = search needs
-
-array-share-prefix-bytes : tie.Need-array-share-prefix-bytes
-array-share-prefix-bytes c = search needs
-
-slice-aggregate-list-part : tie.Need-slice-aggregate-list-part
-slice-aggregate-list-part c = search needs
-
-list-part-requires : tie.Need-list-part-requires
-list-part-requires c κs = search needs
-
-returns-2 : tie.Need-returns-2
-returns-2 c = took (c .list-part .ensures)
+returns c =
+    let read = c .before .before .before .read in
+    record { got = toZ w64 (ofZ w64 (read .result)); buffer = read .last .1 .0; took = c .list-read .ensures }
 
 pub turn-spec : {M : Type 1} → statement M
 turn-spec =
@@ -41,10 +32,6 @@ turn-spec =
     large-buffer-requires
     slice-aggregate-read
     read-requires
-    returns
-    slice-aggregate-count
-    count-requires
-    array-share-prefix-bytes
-    slice-aggregate-list-part
-    list-part-requires
-    returns-2)
+    slice-aggregate-list-read
+    list-read-requires
+    returns)
