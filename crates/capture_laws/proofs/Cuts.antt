@@ -31,6 +31,10 @@ pub bytes-right : (xs ys : List ℕ) → Bytes (xs ++ ys) → Bytes ys
 bytes-right [] ys k = k
 bytes-right (b ∷ xs) ys k = bytes-right xs ys (k .1)
 
+pub bytes-join : (xs ys : List ℕ) → Bytes xs → Bytes ys → Bytes (xs ++ ys)
+bytes-join [] ys k l = l
+bytes-join (b ∷ xs) ys k l = (k .0, bytes-join xs ys (k .1) l)
+
 pub bytes-drop : (n : ℕ) (xs : List ℕ) → Bytes xs → Bytes (drop n xs)
 bytes-drop zero xs k = k
 bytes-drop (suc n) [] k = tt

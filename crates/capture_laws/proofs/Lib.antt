@@ -7,6 +7,7 @@ pub mod Ends
 pub mod Rooms
 pub mod Counts
 pub mod Fours
+pub mod Consumed
 pub mod Stepping
 pub mod Written
 pub mod Judging

@@ -1,6 +1,6 @@
 -- Where a call stands when it ends, by its code: how far it has consumed, and what keeps it from going further.
 -- Assumes nothing.
-use Prim.Native.Nat.{ℕ, _+_, _<_}
+use Prim.Native.Nat.{ℕ, _+_, _*_, _<_}
 use mathlib.Core.Path.{_≡_}
 use mathlib.Core.Bool.{true}
 use mathlib.Core.List.{List, []}
@@ -53,3 +53,7 @@ pub record Stands (s : Reader) (xs : List ℕ) (room : ℕ) (o : Out) : Type 0 w
   pub refuses : s .held ≡ 0 → lastingOf (o .code) ≡ true → Refuses s xs room o
   -- 7
   pub waits : o .code ≡ 7 → Waits s xs room o
+
+-- the bytes of a capture that a state has taken: those of the header, four for each record done, and the carried ones
+abbrev pub consumedOf : Reader → ℕ
+consumedOf s = s .head + s .done * 4 + s .carried

@@ -1,9 +1,10 @@
--- `turns-end`: however an input is cut into parts of at most 65,536 bytes, and whatever buffers of the program's sizes are lent, its turns
+-- `turns-end`: however an input is cut into parts of at most 65,536 bytes, and whatever buffers of the listing's sizes are lent, its turns
 -- come to an end with an output, for which `lists` holds.
 -- Assumes nothing.
 use Prim.Native.Nat.{ℕ, _≤_}
 use mathlib.Core.Path.{_≡_, refl, ap, _∙_}
 use mathlib.Core.List.{List, [], _∷_, _++_, append-assoc, append-nil}
+use native.Mathlib.Omega.{arith}
 use lib.Dec.{eqb}
 use lib.ListN.{length, take, drop}
 use borrow.Author.Tests.{eqb-true, eqb-false}
@@ -56,12 +57,13 @@ module _ (lent blank : List ℕ) (room : answerRoom ≤ length lent) (wide : tex
         written = refl;
       }
 
-  turns-from : (s : Reader) (part : List ℕ) (parts : List (List ℕ)) → Read (part ∷ parts) → Ended s (joined (part ∷ parts))
-  turns-from s part [] h = record { used = part ∷ []; rest = []; text = _; last = _; turns = at-end (a-turn s part (h .0)); same = append-nil (part ++ []) }
-  turns-from s part (next ∷ parts) h =
+  -- the part behind the last is the empty one that is read at the end of the input
+  turns-from : (s : Reader) (parts : List (List ℕ)) → Read parts → Ended s (joined parts)
+  turns-from s [] h = record { used = [] ∷ []; rest = []; text = _; last = _; turns = at-end (a-turn s [] (omega arith)); same = refl }
+  turns-from s (part ∷ parts) h =
       by-test (eqb (fedOf s part .code) 0)
       (λ z.
-      let e = turns-from (fedOf s part .reader) next parts (h .1) in
+      let e = turns-from (fedOf s part .reader) parts (h .1) in
       record {
         used = part ∷ e .used;
         rest = e .rest;
@@ -73,32 +75,37 @@ module _ (lent blank : List ℕ) (room : answerRoom ≤ length lent) (wide : tex
       (λ z.
       record {
         used = part ∷ [];
-        rest = joined (next ∷ parts);
+        rest = joined parts;
         text = _;
         last = _;
         turns = refused (a-turn s part (h .0)) (eqb-false _ _ z);
-        same = ap (λ (l : List ℕ). l ++ joined (next ∷ parts)) (append-nil part);
+        same = ap (λ (l : List ℕ). l ++ joined parts) (append-nil part);
       })
 
-  pub turns-end : (page : List ℕ) → endRoom ≤ length page → (part : List ℕ) (parts : List (List ℕ)) → Read (part ∷ parts) → Ends (joined (part ∷ parts))
-  turns-end page k part parts h =
-      let e = turns-from freshOf part parts h in
+  pub turns-end : (page : List ℕ) → endRoom ≤ length page → (parts : List (List ℕ)) → Read parts → Ends (joined parts)
+  turns-end page k parts h =
+      let e = turns-from freshOf parts h in
       let line : List ℕ = fittingOf (endLineOf (e .last .done) (finishOf (e .last))) (length page) in
       record {
         used = e .used;
         rest = e .rest;
         output = _;
+        last = e .last;
         same = e .same;
         written =
             record {
               text = e .text;
-              last = e .last;
-              blank = page;
-              page = line ++ drop (length line) page;
-              size = length line;
+              line = _;
               turns = e .turns;
-              wide = k;
-              lined = record { told = refl; buffer = refl };
+              end =
+                  record {
+                    blank = page;
+                    page = line ++ drop (length line) page;
+                    size = length line;
+                    wide = k;
+                    lined = record { told = refl; buffer = refl };
+                    written = refl;
+                  };
               written = refl;
             };
       }

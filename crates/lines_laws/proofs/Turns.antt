@@ -1,5 +1,6 @@
--- `lists`: what the program's turns and its end line write is the listing of the whole capture, whatever the parts it was read in and
--- whatever it left unread. `never-full`: the program's buffers hold all that a turn gives.
+-- `lists`: what the listing's turns and its end line write is the listing of the whole capture, whatever the parts it was read in and
+-- whatever it left unread; `last-whole`, `last-finishing`: the state that they leave is the whole capture's, and so is its finishing code.
+-- `any-rest`: they leave it whatever is unread. `never-full`: the listing's buffers hold all that a turn gives.
 -- Assumes nothing.
 use Prim.Native.Nat.{ℕ, _+_, _*_}
 use mathlib.Core.Path.{_≡_, refl, sym, ap, _∙_}
@@ -8,19 +9,24 @@ use mathlib.Core.List.{List, [], _++_, append-assoc, append-nil}
 use native.Mathlib.Omega.{arith}
 use lib.ListN.{length, take, drop}
 use lib.Seq.{take-at}
-use borrow.Author.Tests.{leb-true}
+use lib.Dec.{eqb}
+use borrow.Author.Tests.{leb-true, eqb-true, eqb-false}
+use Rattle.laws.proofs.Choices.{by-test}
 use Rattle.capture.specs.declared.Reader.{Reader}
 use Rattle.capture.specs.declared.Fed.{Fed}
 use Rattle.capture.specs.Reader.{Out, freshOf, callOf, finishOf, rangesOf, Meets}
 use Rattle.capture.specs.Whole.{wholeOf}
 use Rattle.capture_laws.specs.Schedule.{joined, Bytes}
+use Rattle.capture_laws.specs.Places.{consumedOf}
 use Rattle.capture_laws.proofs.Cuts.{fresh-ranges, bytes-left, bytes-right}
 use Rattle.capture.proofs.InRange.{ranges}
 use Rattle.capture_laws.proofs.Rooms.{feed-fits}
+use Rattle.capture_laws.proofs.Places.{stands}
+use Rattle.capture_laws.proofs.Consumed.{run-consumed}
 use Rattle.capture_laws.proofs.Run.{runOf, run-append, run-held, run-ranges}
 use Rattle.capture_laws.proofs.Sections.{whole-run, whole-finishing}
 use Rattle.lines.specs.Lines.{linesOf, endLineOf}
-use Rattle.lines_laws.specs.Turns.{Turn, Turns, Output}
+use Rattle.lines_laws.specs.Turns.{Turn, Turns, Unread, Output}
 use Rattle.lines_laws.specs.Turns.Turns.{at-end, refused, goes-on}
 use Rattle.lines_laws.proofs.Numbered.{laid-front, lined-front, end-short, not-round, lines-all, lines-append}
 use Rattle.capture_laws.proofs.Fours.{run-even, run-code, answers-fit, done-fits}
@@ -38,6 +44,20 @@ module _ {s : Reader} {part text : List ℕ} {r : Fed} (t : Turn s part r text) 
 
   fed-run : Meets (runOf s part) r (t .lent) (t .answers)
   fed-run = rw call-run at (t .fed)
+
+  -- the state that it leaves: in its ranges, with the code held, and further on by the bytes consumed
+  pub turn-ranges : rangesOf (r .reader) ≡ true
+  turn-ranges = rw (fed-run .reader) (run-ranges s part k h)
+
+  pub turn-held : r .code ≡ r .reader .held
+  turn-held = fed-run .code ∙ run-code s part ∙ ap (λ (u : Reader). u .held) (sym (fed-run .reader))
+
+  -- after code 0 every byte of the part is taken
+  pub turn-taken : r .code ≡ 0 → consumedOf (r .reader) ≡ consumedOf s + length part
+  turn-taken z =
+      let all = stands s part (length (t .lent)) .done (sym (t .fed .code) ∙ z) in
+      let few = leb-true (s .carried) 3 (ranges s h .place .few) in
+      rw (fed-run .reader) (omega (arith, run-consumed s part few, ap (λ (o : Out). o .consumed) call-run, all))
 
   pub fed-answers : take (r .written) (t .answers) ≡ runOf s part .answers
   fed-answers =
@@ -98,32 +118,52 @@ held-rest s rest n = let e = run-held s rest n in record { text-is = rw e refl; 
 
 turns-list : {s last : Reader} {parts : List (List ℕ)} {rest text : List ℕ} → Turns s parts rest text last → Bytes (joined parts ++ rest)
     → rangesOf s ≡ true → Lists s (joined parts ++ rest) text last
-turns-list (at-end {part = part} t) k h = rw (append-nil (part ++ []), append-nil part) (one-turn t (rw (append-nil (part ++ []), append-nil part) at k) h)
+turns-list (at-end t) k h = one-turn t k h
 turns-list (refused {s = s} {part = part} {rest = rest} {text = text} {r = r} t n) k h =
     let b = bytes-left part rest (rw (append-nil part) at k) in
-    let held : r .reader .held ≡ 0 → ⊥ = λ z. n (fed-run t b h .code ∙ run-code s part ∙ ap (λ (u : Reader). u .held) (sym (fed-run t b h .reader)) ∙ z) in
+    let held : r .reader .held ≡ 0 → ⊥ = λ z. n (turn-held t b h ∙ z) in
     rw (append-nil part) (rw (append-nil text) at (after-run part rest (one-turn t b h) (held-rest (r .reader) rest held)))
 turns-list (goes-on {s = s} {part = part} {rest = rest} {parts = parts} t z turns) k h =
     let bytes = rw (append-assoc part (joined parts) rest) at k in
     let b = bytes-left part (joined parts ++ rest) bytes in
     let p = one-turn t b h in
-    let q = turns-list turns (bytes-right part (joined parts ++ rest) bytes) (rw (p .last-is) (run-ranges s part b h)) in
+    let q = turns-list turns (bytes-right part (joined parts ++ rest) bytes) (turn-ranges t b h) in
     rw (append-assoc part (joined parts) rest) (after-run part (joined parts ++ rest) p q)
+
+-- ---- what is unread
+
+-- turns are the same whatever is unread
+pub any-rest : {s last : Reader} {parts : List (List ℕ)} {rest text : List ℕ} → Turns s parts rest text last → Bytes (joined parts)
+    → rangesOf s ≡ true → (other : List ℕ) → Unread last other → Turns s parts other text last
+any-rest (at-end {r = r} t) k h other u =
+    by-test (eqb (r .code) 0)
+    (λ z. rw (u (sym (turn-held t k h) ∙ eqb-true (r .code) 0 z)) (at-end t))
+    (λ z. refused t (eqb-false (r .code) 0 z))
+any-rest (refused t n) k h other u = refused t n
+any-rest (goes-on {part = part} {parts = parts} t z turns) k h other u =
+    goes-on t z (any-rest turns (bytes-right part (joined parts) k) (turn-ranges t (bytes-left part (joined parts) k) h) other u)
 
 -- ---- the theorem
 
-pub lists : {parts : List (List ℕ)} {rest output : List ℕ} → Output parts rest output → Bytes (joined parts ++ rest)
-    → output ≡ captureListingOf (joined parts ++ rest)
-lists {parts} {rest} o k =
-    let capture : List ℕ = joined parts ++ rest in
-    let p = turns-list (o .turns) k fresh-ranges in
-    let run = whole-run capture in
-    let text : o .text ≡ linesOf 1 (wholeOf capture .answers) = p .text-is ∙ ap (λ (w : Out). linesOf 1 (w .answers)) run in
-    let reader : runOf freshOf capture .reader ≡ wholeOf capture .reader = ap (λ (w : Out). w .reader) run in
-    let last : o .last ≡ wholeOf capture .reader = p .last-is ∙ reader in
-    let in-ranges : rangesOf (wholeOf capture .reader) ≡ true = rw reader at (run-ranges freshOf capture k fresh-ranges) in
-    let finishing : finishOf (o .last) ≡ wholeOf capture .finishing = rw (last, in-ranges) (whole-finishing capture) in
-    let short = end-short (o .last .done) (finishOf (o .last)) in
-    let wide = o .wide in
-    let end = lined-front (endLineOf (o .last .done) (finishOf (o .last))) (omega arith) (o .lined) in
-    o .written ∙ (λ i. text i ++ (end ∙ (λ j. endLineOf (last j .done) (finishing j))) i)
+module _ {parts : List (List ℕ)} {rest output : List ℕ} {last : Reader} (o : Output parts rest output last) (k : Bytes (joined parts ++ rest)) where
+  abbrev capture : List ℕ
+  capture = joined parts ++ rest
+
+  as-run : Lists freshOf capture (o .text) last
+  as-run = turns-list (o .turns) k fresh-ranges
+
+  pub last-whole : last ≡ wholeOf capture .reader
+  last-whole = as-run .last-is ∙ ap (λ (w : Out). w .reader) (whole-run capture)
+
+  pub last-finishing : finishOf last ≡ wholeOf capture .finishing
+  last-finishing =
+      let in-ranges : rangesOf last ≡ true = rw (as-run .last-is) (run-ranges freshOf capture k fresh-ranges) in
+      rw in-ranges (rw last-whole (whole-finishing capture))
+
+  pub lists : output ≡ captureListingOf capture
+  lists =
+      let text : o .text ≡ linesOf 1 (wholeOf capture .answers) = as-run .text-is ∙ ap (λ (w : Out). linesOf 1 (w .answers)) (whole-run capture) in
+      let short = end-short (last .done) (finishOf last) in
+      let wide = o .end .wide in
+      let end = o .end .written ∙ lined-front (endLineOf (last .done) (finishOf last)) (omega arith) (o .end .lined) in
+      o .written ∙ (λ i. text i ++ (end ∙ (λ j. endLineOf (last-whole j .done) (last-finishing j))) i)

@@ -1,4 +1,4 @@
--- The listing program's turns over a capture, and what they write. A call is known by what it promises, and by nothing else.
+-- The listing's turns over a capture, and what they write. A call is known by what it promises, and by nothing else.
 -- Assumes nothing.
 use Prim.Native.Nat.{ℕ, _≤_}
 use mathlib.Core.Path.{_≡_}
@@ -10,7 +10,7 @@ use Rattle.capture.specs.Reader.{freshOf, finishOf, FedWith}
 use Rattle.capture_laws.specs.Schedule.{joined}
 use Rattle.lines.specs.Lines.{endLineOf, nextOf, Lined, Listed}
 
--- ---- the program's buffers
+-- ---- the listing's buffers
 
 -- bytes read at once, at most
 abbrev pub readMost : ℕ
@@ -29,7 +29,7 @@ endRoom = 17
 -- ---- turns
 
 -- one turn: a part is read and fed, and the lines of its answers are written, numbered on from the records done before it; `lent` and
--- `blank` are the program's buffers before the two calls, `answers` and `page` after them
+-- `blank` are the listing's buffers before the two calls, `answers` and `page` after them
 pub record Turn (s : Reader) (part : List ℕ) (r : Fed) (text : List ℕ) : Type 0 where
   pub lent : List ℕ
   pub answers : List ℕ
@@ -43,28 +43,36 @@ pub record Turn (s : Reader) (part : List ℕ) (r : Fed) (text : List ℕ) : Typ
   pub listed : Listed (nextOf (s .done)) (take (r .written) answers) size blank page
   pub written : text ≡ take size page
 
--- turns in order, each from the state that the one before it left, while the code is 0. The last one is at the end of the input, with
--- nothing unread, or has a code other than 0, and leaves a rest unread
+-- turns in order, each from the state that the one before it left, while the code is 0. The last one is at the end of the input, where
+-- no byte is read and none is left; or it has a code other than 0, and leaves a rest unread
 pub data Turns : Reader → List (List ℕ) → List ℕ → List ℕ → Reader → Type 0 where
-  at-end : {s : Reader} {part text : List ℕ} {r : Fed} → Turn s part r text → Turns s (part ∷ []) [] text (r .reader)
+  at-end : {s : Reader} {text : List ℕ} {r : Fed} → Turn s [] r text → Turns s ([] ∷ []) [] text (r .reader)
   refused : {s : Reader} {part rest text : List ℕ} {r : Fed} → Turn s part r text → (r .code ≡ 0 → ⊥) → Turns s (part ∷ []) rest text (r .reader)
   goes-on : {s last : Reader} {part rest text texts : List ℕ} {parts : List (List ℕ)} {r : Fed} → Turn s part r text → r .code ≡ 0
       → Turns (r .reader) parts rest texts last → Turns s (part ∷ parts) rest (text ++ texts) last
 
+-- what may be unread behind the state that turns leave: nothing, unless a byte was refused
+abbrev pub Unread : Reader → List ℕ → Type 0
+Unread last rest = last .held ≡ 0 → rest ≡ []
+
 -- ---- the output
 
--- the texts of the turns from a fresh state, in order, and the end line of the state that they leave
-
-pub record Output (parts : List (List ℕ)) (rest output : List ℕ) : Type 0 where
-  pub text : List ℕ
-  pub last : Reader
+-- the end line of a state
+pub record End (last : Reader) (line : List ℕ) : Type 0 where
   pub blank : List ℕ
   pub page : List ℕ
   pub size : ℕ
-  pub turns : Turns freshOf parts rest text last
   pub wide : endRoom ≤ length blank
   pub lined : Lined (endLineOf (last .done) (finishOf last)) size blank page
-  pub written : output ≡ text ++ take size page
+  pub written : line ≡ take size page
+
+-- the texts of the turns from a fresh state, in order, and the end line of the state that they leave
+pub record Output (parts : List (List ℕ)) (rest output : List ℕ) (last : Reader) : Type 0 where
+  pub text : List ℕ
+  pub line : List ℕ
+  pub turns : Turns freshOf parts rest text last
+  pub end : End last line
+  pub written : output ≡ text ++ line
 
 -- ---- that there is one
 
@@ -78,5 +86,6 @@ pub record Ends (input : List ℕ) : Type 0 where
   pub used : List (List ℕ)
   pub rest : List ℕ
   pub output : List ℕ
+  pub last : Reader
   pub same : joined used ++ rest ≡ input
-  pub written : Output used rest output
+  pub written : Output used rest output last

@@ -2,11 +2,9 @@
 use borrow.Author.Needs.{needs}
 use Rattle.io.proofs.Counting.{counts}
 use Rattle.lines.proofs.Layers.{inside}
-use Rattle.listing.proofs.main.Statement.{statement}
-use Rattle.listing.proofs.main.Tie as tie
-
-all-requires : tie.Need-all-requires
-all-requires c κs = search needs
+use Rattle.bench_list.proofs.Making.{made-end}
+use Rattle.bench_list.proofs.end.Statement.{statement}
+use Rattle.bench_list.proofs.end.Tie as tie
 
 finish-requires : tie.Need-finish-requires
 finish-requires c κs = search needs
@@ -26,22 +24,30 @@ slice-aggregate-write-all c = counts _ _ (inside (c .before .before .end-line .e
 write-all-requires : tie.Need-write-all-requires
 write-all-requires c κs = search needs
 
+ended-requires : tie.Need-ended-requires
+ended-requires c κs = search needs
+
 returns : tie.Need-returns
-returns c = search needs
+returns c =
+    let lined = c .before .before .before .before in
+    let start = lined .before .before in
+    let last = start .before .args .reader in
+    record {
+      line = _;
+      end = made-end last (start .finish .ensures) (lined .end-line .ensures) (search needs);
+      written = c .before .write-all .result;
+      told = rw (start .finish .ensures) at (c .ended .ensures);
+    }
 
-returns-2 : tie.Need-returns-2
-returns-2 c = search needs
-
-pub main-spec : {M : Type 1} → statement M
-main-spec =
+pub end-spec : {M : Type 1} → statement M
+end-spec =
     tie.close
     (tie.spec
-    all-requires
     finish-requires
     slice-aggregate-end-line
     end-line-requires
     array-share-prefix-text
     slice-aggregate-write-all
     write-all-requires
-    returns
-    returns-2)
+    ended-requires
+    returns)

@@ -1,0 +1,163 @@
+-- The loop's turns: what is known between two of them, that each takes a byte or is the last, and what each way out gives.
+-- Assumes nothing.
+use Prim.Native.Nat.{ℕ, _-_, _<_}
+use mathlib.Core.Path.{_≡_, refl, sym, ap, _∙_}
+use mathlib.Core.Bool.{Bool, true, false, _&&_}
+use mathlib.Core.List.{List, [], _∷_, _++_, append-assoc, append-nil}
+use native.Mathlib.Omega.{arith}
+use lib.Dec.{ltb, eqb}
+use lib.IntN.{ℤ, pos, negsuc}
+use lib.ListN.{length, take}
+use borrow.Author.Tests.{ltb-true, ltb-false, eqb-true, eqb-false}
+use Rattle.laws.proofs.Choices.{clash, by-test, and-left, and-right}
+use Rattle.capture.specs.declared.Reader.{Reader}
+use Rattle.capture.specs.declared.Fed.{Fed}
+use Rattle.capture.specs.Reader.{freshOf, finishOf, rangesOf}
+use Rattle.capture_laws.specs.Schedule.{joined, Bytes}
+use Rattle.capture_laws.specs.Places.{consumedOf}
+use Rattle.capture_laws.proofs.Cuts.{fresh-ranges, bytes-left, bytes-right, bytes-join}
+use Rattle.capture_laws.proofs.Consumed.{captureMost, consumed-most}
+use Rattle.lines_laws.specs.Turns.{Turn, Turns, Unread, End, Output}
+use Rattle.lines_laws.specs.Turns.Turns.{at-end, refused, goes-on}
+use Rattle.lines_laws.proofs.Turns.{turn-ranges, turn-taken, any-rest}
+use Rattle.bench_list.specs.declared.Listed.{Listed}
+use Rattle.bench_list.specs.declared.Went.{Went}
+use Rattle.bench_list.specs.List.{failedOf, wroteOf, endedOf, Took, TookRead, Turned, Ended, Lists}
+use Rattle.bench_list.specs.List.Lists.{whole, not-read, not-written}
+
+-- ---- one turn
+
+-- one that did not fail
+pub record Good (s : Reader) (w : Went) : Type 0 where
+  pub part : List ℕ
+  pub r : Fed
+  pub text : List ℕ
+  pub bytes : Bytes part
+  pub turn : Turn s part r text
+  pub reader : w .reader ≡ r .reader
+  pub goes : w .goes ≡ (ltb 0 (length part) && eqb (r .code) 0)
+
+abbrev more : List ℕ → Fed → Bool
+more part r = ltb 0 (length part) && eqb (r .code) 0
+
+good-took : {s : Reader} {part : List ℕ} {w : Went} (t : Took s part w) (written : Bool) → w ≡ wroteOf (t .r .reader) (more part (t .r)) written
+    → w .failure ≡ 0 → Good s w
+good-took {part = part} t true e z =
+    record {
+      part = part;
+      r = t .r;
+      text = t .text;
+      bytes = t .bytes;
+      turn = t .turn;
+      reader = ap (λ (w : Went). w .reader) e;
+      goes = ap (λ (w : Went). w .goes) e;
+    }
+good-took t false e z = absurd (omega (arith, ap (λ (w : Went). w .failure) e))
+
+good-read : (s : Reader) {w : Went} (got : ℤ) (buffer : List ℕ) → TookRead s got buffer w → w .failure ≡ 0 → Good s w
+good-read s (pos n) buffer t z = good-took t (t .written) (t .told) z
+good-read s (negsuc n) buffer e z = absurd (omega (arith, ap (λ (w : Went). w .failure) e))
+
+pub good : {s : Reader} {w : Went} → Turned s w → w .failure ≡ 0 → Good s w
+good {s} t = good-read s (t .got) (t .buffer) (t .took)
+
+-- and one that did
+bad-took : {w : Went} (s : Reader) (goes written : Bool) → w ≡ wroteOf s goes written → (w .failure ≡ 0 → ⊥) → Lists (failedOf (w .failure))
+bad-took s goes true e n = absurd (n (ap (λ (w : Went). w .failure) e))
+bad-took s goes false e n = rw (ap (λ (w : Went). w .failure) e) not-written
+
+bad-read : (s : Reader) (w : Went) (got : ℤ) (buffer : List ℕ) → TookRead s got buffer w → (w .failure ≡ 0 → ⊥) → Lists (failedOf (w .failure))
+bad-read s w (pos n) buffer t f = bad-took (t .r .reader) (more (take n buffer) (t .r)) (t .written) (t .told) f
+bad-read s w (negsuc n) buffer e f = rw (ap (λ (w : Went). w .failure) e) not-read
+
+pub bad : {s : Reader} {w : Went} → Turned s w → (w .failure ≡ 0 → ⊥) → Lists (failedOf (w .failure))
+bad {s} {w} t = bad-read s w (t .got) (t .buffer) (t .took)
+
+-- ---- turns so far
+
+bytes-then : (parts : List (List ℕ)) (part : List ℕ) → Bytes (joined parts) → Bytes part → Bytes (joined (parts ++ (part ∷ [])))
+bytes-then [] part k l = rw (append-nil part) l
+bytes-then (p ∷ parts) part k l =
+    bytes-join p (joined (parts ++ (part ∷ []))) (bytes-left p (joined parts) k) (bytes-then parts part (bytes-right p (joined parts) k) l)
+
+-- the turns that led to a state; whatever turns follow from it make one row with them
+pub record SoFar (s : Reader) : Type 0 where
+  pub parts : List (List ℕ)
+  pub text : List ℕ
+  pub bytes : Bytes (joined parts)
+  pub ranges : rangesOf s ≡ true
+  pub onward : {later : List (List ℕ)} {rest texts : List ℕ} {last : Reader} → Turns s later rest texts last
+      → Turns freshOf (parts ++ later) rest (text ++ texts) last
+
+pub begun : {s : Reader} → s ≡ freshOf → SoFar s
+begun e = rw e (record { parts = []; text = []; bytes = tt; ranges = fresh-ranges; onward = λ t. t })
+
+no-byte : {s : Reader} {text : List ℕ} {r : Fed} (part : List ℕ) → length part ≡ 0 → Turn s part r text → Turns s (part ∷ []) [] text (r .reader)
+no-byte [] e t = at-end t
+no-byte (b ∷ part) e t = absurd (omega arith)
+
+module _ {s : Reader} {w : Went} (f : SoFar s) (g : Good s w) where
+  abbrev all : List (List ℕ)
+  all = f .parts ++ (g .part ∷ [])
+
+  all-bytes : Bytes (joined all)
+  all-bytes = bytes-then (f .parts) (g .part) (f .bytes) (g .bytes)
+
+  -- ---- another follows
+
+  module _ (e : w .goes ≡ true) where
+    taken : length (g .part) ≡ 0 → ⊥
+    taken z = omega (arith, ltb-true 0 (length (g .part)) (and-left _ _ (sym (g .goes) ∙ e)))
+
+    zero-code : g .r .code ≡ 0
+    zero-code = eqb-true (g .r .code) 0 (and-right (ltb 0 (length (g .part))) _ (sym (g .goes) ∙ e))
+
+    pub further : SoFar (w .reader)
+    further =
+        rw (g .reader)
+        (record {
+          parts = all;
+          text = f .text ++ g .text;
+          bytes = all-bytes;
+          ranges = turn-ranges (g .turn) (g .bytes) (f .ranges);
+          onward = λ {later} {rest} {texts} {last} t.
+              rw (append-assoc (f .parts) (g .part ∷ []) later, append-assoc (f .text) (g .text) texts) (f .onward (goes-on (g .turn) zero-code t));
+        })
+
+    pub less : captureMost - consumedOf (w .reader) < captureMost - consumedOf s
+    less =
+        let grown = turn-taken (g .turn) (g .bytes) (f .ranges) zero-code in
+        rw (g .reader) (omega (arith, consumed-most s (f .ranges), taken))
+
+  -- ---- it is the last
+
+  module _ (e : w .goes ≡ false) where
+    last-turn : Turns s (g .part ∷ []) [] (g .text) (g .r .reader)
+    last-turn =
+        by-test (eqb (g .r .code) 0)
+        (λ z. by-test (ltb 0 (length (g .part)))
+        (λ h. clash (sym e ∙ g .goes ∙ rw (h, z)))
+        (λ h. let l = ltb-false 0 (length (g .part)) h in no-byte (g .part) (omega arith) (g .turn)))
+        (λ z. refused (g .turn) (eqb-false (g .r .code) 0 z))
+
+    output : (line : List ℕ) → End (g .r .reader) line → (rest : List ℕ) → Unread (g .r .reader) rest
+        → Output all rest ((f .text ++ g .text) ++ line) (g .r .reader)
+    output line end rest u =
+        let turns = any-rest (f .onward last-turn) all-bytes fresh-ranges rest u in
+        record { text = f .text ++ g .text; line = line; turns = turns; end = end; written = refl }
+
+    over-ended : {r : Listed} (d : Ended (g .r .reader) r) (written : Bool) → r ≡ endedOf (g .r .reader) (finishOf (g .r .reader)) written → Lists r
+    over-ended d true h =
+        whole
+        (record {
+          parts = all;
+          output = (f .text ++ g .text) ++ d .line;
+          last = g .r .reader;
+          bytes = all-bytes;
+          written = output (d .line) (d .end);
+          told = h;
+        })
+    over-ended d false h = rw h not-written
+
+    pub over : {r : Listed} → Ended (w .reader) r → Lists r
+    over d = let same = rw (g .reader) at d in over-ended same (same .written) (same .told)
