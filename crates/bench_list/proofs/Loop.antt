@@ -27,22 +27,22 @@ use Rattle.bench_list.specs.List.Lists.{whole, not-read, not-written}
 
 -- ---- one turn
 
+abbrev more : List ℕ → Fed → Bool
+more part r = ltb 0 (length part) && eqb (r .code) 0
+
 -- one that did not fail
-pub record Good (s : Reader) (w : Went) : Type 0 where
+pub record Succeeded (s : Reader) (w : Went) : Type 0 where
   pub part : List ℕ
   pub r : Fed
   pub text : List ℕ
   pub bytes : Bytes part
   pub turn : Turn s part r text
   pub reader : w .reader ≡ r .reader
-  pub goes : w .goes ≡ (ltb 0 (length part) && eqb (r .code) 0)
+  pub goes : w .goes ≡ more part r
 
-abbrev more : List ℕ → Fed → Bool
-more part r = ltb 0 (length part) && eqb (r .code) 0
-
-good-took : {s : Reader} {part : List ℕ} {w : Went} (t : Took s part w) (written : Bool) → w ≡ wroteOf (t .r .reader) (more part (t .r)) written
-    → w .failure ≡ 0 → Good s w
-good-took {part = part} t true e z =
+succeeded-took : {s : Reader} {part : List ℕ} {w : Went} (t : Took s part w) (written : Bool) → w ≡ wroteOf (t .r .reader) (more part (t .r)) written
+    → w .failure ≡ 0 → Succeeded s w
+succeeded-took {part = part} t true e z =
     record {
       part = part;
       r = t .r;
@@ -52,26 +52,26 @@ good-took {part = part} t true e z =
       reader = ap (λ (w : Went). w .reader) e;
       goes = ap (λ (w : Went). w .goes) e;
     }
-good-took t false e z = absurd (omega (arith, ap (λ (w : Went). w .failure) e))
+succeeded-took t false e z = absurd (omega (arith, ap (λ (w : Went). w .failure) e))
 
-good-read : (s : Reader) {w : Went} (got : ℤ) (buffer : List ℕ) → TookRead s got buffer w → w .failure ≡ 0 → Good s w
-good-read s (pos n) buffer t z = good-took t (t .written) (t .told) z
-good-read s (negsuc n) buffer e z = absurd (omega (arith, ap (λ (w : Went). w .failure) e))
+succeeded-read : (s : Reader) {w : Went} (got : ℤ) (buffer : List ℕ) → TookRead s got buffer w → w .failure ≡ 0 → Succeeded s w
+succeeded-read s (pos n) buffer t z = succeeded-took t (t .written) (t .told) z
+succeeded-read s (negsuc n) buffer e z = absurd (omega (arith, ap (λ (w : Went). w .failure) e))
 
-pub good : {s : Reader} {w : Went} → Turned s w → w .failure ≡ 0 → Good s w
-good {s} t = good-read s (t .got) (t .buffer) (t .took)
+pub succeeded : {s : Reader} {w : Went} → Turned s w → w .failure ≡ 0 → Succeeded s w
+succeeded {s} t = succeeded-read s (t .got) (t .buffer) (t .took)
 
 -- and one that did
-bad-took : {w : Went} (s : Reader) (goes written : Bool) → w ≡ wroteOf s goes written → (w .failure ≡ 0 → ⊥) → Lists (failedOf (w .failure))
-bad-took s goes true e n = absurd (n (ap (λ (w : Went). w .failure) e))
-bad-took s goes false e n = rw (ap (λ (w : Went). w .failure) e) not-written
+failed-took : {w : Went} (s : Reader) (goes written : Bool) → w ≡ wroteOf s goes written → (w .failure ≡ 0 → ⊥) → Lists (failedOf (w .failure))
+failed-took s goes true e n = absurd (n (ap (λ (w : Went). w .failure) e))
+failed-took s goes false e n = rw (ap (λ (w : Went). w .failure) e) not-written
 
-bad-read : (s : Reader) (w : Went) (got : ℤ) (buffer : List ℕ) → TookRead s got buffer w → (w .failure ≡ 0 → ⊥) → Lists (failedOf (w .failure))
-bad-read s w (pos n) buffer t f = bad-took (t .r .reader) (more (take n buffer) (t .r)) (t .written) (t .told) f
-bad-read s w (negsuc n) buffer e f = rw (ap (λ (w : Went). w .failure) e) not-read
+failed-read : (s : Reader) (w : Went) (got : ℤ) (buffer : List ℕ) → TookRead s got buffer w → (w .failure ≡ 0 → ⊥) → Lists (failedOf (w .failure))
+failed-read s w (pos n) buffer t f = failed-took (t .r .reader) (more (take n buffer) (t .r)) (t .written) (t .told) f
+failed-read s w (negsuc n) buffer e f = rw (ap (λ (w : Went). w .failure) e) not-read
 
-pub bad : {s : Reader} {w : Went} → Turned s w → (w .failure ≡ 0 → ⊥) → Lists (failedOf (w .failure))
-bad {s} {w} t = bad-read s w (t .got) (t .buffer) (t .took)
+pub failed : {s : Reader} {w : Went} → Turned s w → (w .failure ≡ 0 → ⊥) → Lists (failedOf (w .failure))
+failed {s} {w} t = failed-read s w (t .got) (t .buffer) (t .took)
 
 -- ---- turns so far
 
@@ -96,7 +96,7 @@ no-byte : {s : Reader} {text : List ℕ} {r : Fed} (part : List ℕ) → length 
 no-byte [] e t = at-end t
 no-byte (b ∷ part) e t = absurd (omega arith)
 
-module _ {s : Reader} {w : Went} (f : SoFar s) (g : Good s w) where
+module _ {s : Reader} {w : Went} (f : SoFar s) (g : Succeeded s w) where
   abbrev all : List (List ℕ)
   all = f .parts ++ (g .part ∷ [])
 

@@ -4,7 +4,7 @@ use borrow.Author.Needs.{needs}
 use borrow.Author.Tests.{not-true, not-false}
 use Rattle.capture_laws.specs.Places.{consumedOf}
 use Rattle.capture_laws.proofs.Consumed.{captureMost}
-use Rattle.bench_list.proofs.Loop.{SoFar, good, bad, begun, further, less, over}
+use Rattle.bench_list.proofs.Loop.{SoFar, succeeded, failed, begun, further, less, over}
 use Rattle.bench_list.proofs.lm89_list.Statement.{statement}
 use Rattle.bench_list.proofs.lm89_list.Tie as tie
 
@@ -27,7 +27,7 @@ failed-requires : tie.Need-failed-requires Inv-loop μ-loop
 failed-requires c κs = search needs
 
 returns : tie.Need-returns Inv-loop μ-loop
-returns c = rw (c .failed .ensures) (bad (c .before .before .before .turn .ensures) (c .before .if1 .taken))
+returns c = rw (c .failed .ensures) (failed (c .before .before .before .turn .ensures) (c .before .if1 .taken))
 
 end-requires : tie.Need-end-requires Inv-loop μ-loop
 end-requires c κs = search needs
@@ -35,17 +35,20 @@ end-requires c κs = search needs
 returns-2 : tie.Need-returns-2 Inv-loop μ-loop
 returns-2 c =
     let turned = c .before .before .before .before .before .before in
-    over (turned .before .loop .inv) (good (turned .turn .ensures) (c .before .before .before .before .if1 .left)) (not-true _ (c .before .if2 .taken)) (c .end .ensures)
+    let done = succeeded (turned .turn .ensures) (c .before .before .before .before .if1 .left) in
+    over (turned .before .loop .inv) done (not-true _ (c .before .if2 .taken)) (c .end .ensures)
 
 loop-less : tie.Need-loop-less Inv-loop μ-loop
 loop-less c =
     let turned = c .before .before .before .before .before in
-    less (turned .before .loop .inv) (good (turned .turn .ensures) (c .before .before .before .if1 .left)) (not-false _ (c .if2 .left))
+    let done = succeeded (turned .turn .ensures) (c .before .before .before .if1 .left) in
+    less (turned .before .loop .inv) done (not-false _ (c .if2 .left))
 
 loop-again : tie.Need-loop-again Inv-loop μ-loop
 loop-again c =
     let turned = c .before .before .before .before .before in
-    further (turned .before .loop .inv) (good (turned .turn .ensures) (c .before .before .before .if1 .left)) (not-false _ (c .if2 .left))
+    let done = succeeded (turned .turn .ensures) (c .before .before .before .if1 .left) in
+    further (turned .before .loop .inv) done (not-false _ (c .if2 .left))
 
 pub lm89-list-spec : {M : Type 1} → statement M
 lm89-list-spec =
