@@ -6,7 +6,7 @@ set -euo pipefail
 cd "$(dirname "$0")/.."
 source scripts/machine.sh
 
-first_build_takes='a few minutes'
+first_build_takes='about three minutes'
 joined=(bench bench_step bench_feed bench_write bench_version)
 listing=bench_list
 crates=("${joined[@]}" "$listing")
