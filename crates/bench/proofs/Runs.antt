@@ -10,24 +10,18 @@ use Rattle.capture.specs.declared.Fed.{Fed}
 use Rattle.capture.specs.Reader.{Out, freshOf, feedOf, callOf, endOf, Meets}
 use Rattle.capture.specs.Whole.{wholeOf}
 use Rattle.capture_laws.specs.Schedule.{Bytes}
-use Rattle.capture_laws.proofs.Rooms.{feed-fits, feed-short}
-use Rattle.capture_laws.proofs.Cuts.{fresh-ranges}
-use Rattle.capture_laws.proofs.Sections.{outcome, whole-run, whole-finishing}
+use Rattle.capture_laws.proofs.Rooms.{feed-short}
+use Rattle.capture_laws.proofs.Cuts.{fresh-ranges, whole-call}
+use Rattle.capture_laws.proofs.Sections.{whole-run, whole-finishing}
 use Rattle.capture_laws.proofs.Counts.{written-small}
 use Rattle.laws.proofs.Choices.{by-test}
 use Rattle.bench.specs.Bench.{lastOf, benchOf, Ran, RanWhole}
 
 -- ---- the call against the whole-capture definition
 
--- with room for every answer
-module _ (xs : List ℕ) (room : ℕ) (fits : length (wholeOf xs .answers) ≤ room) where
-  call-fits : callOf freshOf xs room ≡ outcome (wholeOf xs)
-  call-fits =
-      let run = whole-run xs in
-      rw fresh-ranges (feed-fits freshOf xs room (rw (ap (λ (o : Out). length (o .answers)) run) fits) ∙ run)
-
-  end-fits : endOf (callOf freshOf xs room .reader) ≡ wholeOf xs .finishing
-  end-fits = rw (ap (λ (o : Out). o .reader) call-fits) (whole-finishing xs)
+-- with room for every answer the state finishes as the whole does
+end-fits : (xs : List ℕ) (room : ℕ) → length (wholeOf xs .answers) ≤ room → endOf (callOf freshOf xs room .reader) ≡ wholeOf xs .finishing
+end-fits xs room fits = rw (ap (λ (o : Out). o .reader) (whole-call xs room fits)) (whole-finishing xs)
 
 -- ---- what the call returns
 
@@ -39,7 +33,7 @@ ran xs entry fed m =
     by-test (leb (length (wholeOf xs .answers)) (length entry))
     (λ e.
     let fits = leb-true (length (wholeOf xs .answers)) (length entry) e in
-    let call = call-fits xs (length entry) fits in
+    let call = whole-call xs (length entry) fits in
     let same = rw call at m in
     let end : endOf (fed .reader) ≡ wholeOf xs .finishing = rw (m .reader) (end-fits xs (length entry) fits) in
     rw e (record { told = rw (same .written, same .code, end); buffer = same .buffer }))

@@ -3,7 +3,7 @@
 -- `consumed-most`: a state in its ranges has not taken more than a header and all its records.
 -- Assumes nothing.
 use Prim.Native.Nat.{ℕ, _+_, _*_, _^_, _≤_, _<_}
-use mathlib.Core.Path.{_≡_, refl, sym, ap, _∙_}
+use mathlib.Core.Path.{_≡_, refl, sym, _∙_}
 use mathlib.Core.Bool.{Bool, true, false, cond, _&&_}
 use mathlib.Core.List.{List, [], _∷_}
 use native.Mathlib.Omega.{arith}
@@ -18,15 +18,14 @@ use Rattle.record.specs.declared.Refusal.the-variants.{Kind, Operand}
 use Rattle.record.specs.Record.{decodeOf, codeOf}
 use Rattle.capture.specs.declared.Reader.{Reader}
 use Rattle.capture.specs.Sensor.{countPlace}
-use Rattle.capture.specs.Reader.{Turn, Out, freshOf, headerLengthOf, headerDone, inHeader, headOf, judgedOf, recordOf, turnOf, rangesOf, callOf}
+use Rattle.capture.specs.Reader.{Turn, freshOf, headerLengthOf, headerDone, inHeader, headOf, judgedOf, recordOf, turnOf, rangesOf}
 use Rattle.capture.specs.Whole.{Whole, wholeOf}
 use Rattle.capture_laws.specs.Codes.{lastingOf}
 use Rattle.capture_laws.specs.Places.{Refuses, consumedOf}
 use Rattle.capture.proofs.InRange.{ranges, count-fits}
 use Rattle.capture_laws.proofs.Run.{runOf, run-nil, run-on, run-stop}
 use Rattle.capture_laws.proofs.Sections.{outcome, whole-run, whole-finishing}
-use Rattle.capture_laws.proofs.Cuts.{fresh-ranges}
-use Rattle.capture_laws.proofs.Rooms.{feed-fits}
+use Rattle.capture_laws.proofs.Cuts.{whole-call}
 use Rattle.capture_laws.proofs.Fours.{run-code}
 use Rattle.capture_laws.proofs.Places.{stands}
 
@@ -118,13 +117,6 @@ module _ (xs : List ℕ) where
   abbrev w : Whole
   w = wholeOf xs
 
-  -- a call with room for every answer
-  whole-call : callOf freshOf xs (length (w .answers)) ≡ outcome w
-  whole-call =
-      let run = whole-run xs in
-      let fits = ap (λ (o : Out). length (o .answers)) run in
-      rw fresh-ranges (feed-fits freshOf xs (length (w .answers)) (omega arith) ∙ run)
-
   -- a lasting finishing code is the one that the capture was refused with
   refused-code : lastingOf (w .finishing) ≡ true → w .code ≡ w .finishing
   refused-code l =
@@ -137,5 +129,5 @@ module _ (xs : List ℕ) where
   pub refused-next : lastingOf (w .finishing) ≡ true → (w .code ≡ w .finishing) × Refuses freshOf xs (length (w .answers)) (outcome w)
   refused-next l =
       let code = refused-code l in
-      let place = rw whole-call at (stands freshOf xs (length (w .answers))) in
+      let place = rw (whole-call xs (length (w .answers)) (omega arith)) at (stands freshOf xs (length (w .answers))) in
       (code, place .refuses refl (rw code l))

@@ -1,7 +1,8 @@
 -- Demand 3. `cuts`: a capture cut anywhere, its parts fed in order, whatever buffers the calls are lent, a retry after each 7 and only
--- then, gives what the whole-capture definition gives. `determined`: two results that meet feed's promise are equal, buffer included.
+-- then, gives what the whole-capture definition gives. `whole-call`: so does one call with room for every answer. `determined`: two results
+-- that meet feed's promise are equal, buffer included.
 -- Assumes nothing.
-use Prim.Native.Nat.{ℕ, zero, suc}
+use Prim.Native.Nat.{ℕ, zero, suc, _≤_}
 use mathlib.Core.Path.{_≡_, ap, sym, _∙_}
 use mathlib.Core.List.{List, [], _∷_, _++_, append-nil}
 use mathlib.Core.Bool.{true}
@@ -10,11 +11,13 @@ use lib.Seq.{take-append-seam}
 use Rattle.capture.specs.declared.Reader.{Reader}
 use Rattle.capture.specs.declared.Fed.{Fed}
 use Rattle.capture.specs.Reader.{Out, feedOf, callOf, endOf, placeOf, rangesOf, freshOf, Meets}
+use Rattle.capture.specs.Whole.{wholeOf}
 use Rattle.capture_laws.specs.Schedule.{Buffer, seen, after, Part, Parts, joined, Bytes, SameAsWhole}
 use Rattle.capture_laws.specs.Schedule.Part.{last, again}
 use Rattle.capture_laws.specs.Schedule.Parts.{one, more}
 use Rattle.capture_laws.proofs.Run.{runOf, run-append, run-ranges, feed-run, feed-resume, feed-ranges}
-use Rattle.capture_laws.proofs.Sections.{whole-run, whole-finishing}
+use Rattle.capture_laws.proofs.Rooms.{feed-fits}
+use Rattle.capture_laws.proofs.Sections.{outcome, whole-run, whole-finishing}
 use Rattle.capture.proofs.Sensors.{zero-ranges}
 
 -- what is seen of a call is its outcome
@@ -83,6 +86,11 @@ cuts ps o k p =
       finishing = simp i (ap (λ (x : Out). endOf (x .reader)) e ∙ whole-finishing (joined ps));
       ranges = i;
     }
+
+pub whole-call : (xs : List ℕ) (room : ℕ) → length (wholeOf xs .answers) ≤ room → callOf freshOf xs room ≡ outcome (wholeOf xs)
+whole-call xs room fits =
+    let run = whole-run xs in
+    rw fresh-ranges (feed-fits freshOf xs room (rw (ap (λ (o : Out). length (o .answers)) run) fits) ∙ run)
 
 -- two results that meet one outcome are equal, and so are their buffers
 pub determined : (o : Out) {r r′ : Fed} {entry exit exit′ : List ℕ} → Meets o r entry exit → Meets o r′ entry exit′
