@@ -202,7 +202,7 @@ typedef struct {
 
 /* What feeding a part gives. */
 typedef struct {
-    uint64_t consumed;  /* bytes of the part that were taken; on codes 1 to 5 and 7 the byte behind them is the one judged */
+    uint64_t consumed;  /* bytes of the part that were taken; on 7, and on 1 to 5 unless the reader held it, the next is the one judged */
     uint64_t written;   /* answer bytes written */
     uint8_t code;       /* LM89_CODE_... */
     lm89_reader reader; /* the reader after it */
@@ -242,7 +242,9 @@ lm89_reader lm89_fresh(void);
  * A byte that is judged 1 to 5 or 7 is not consumed, and what came before it stays consumed. Codes 1 to 5 last: the reader holds them.
  * 7 does not: give the unread rest again, with room for two bytes or more.
  *
- * However a capture is cut, and whatever room each call has, answers, bytes consumed, codes and the device at the end are the same.
+ * If every 7 is answered so, then however a capture is cut and whatever room each call has, the answers joined, the bytes consumed, the
+ * last code, the finishing code and the reader at the end are the same; lm89_run with room for every answer gives those answers, and
+ * the last code if it is not 0, else the finishing one.
  */
 lm89_fed lm89_feed(lm89_reader reader, const uint8_t *input, size_t length, uint8_t *answers, size_t room);
 

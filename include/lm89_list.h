@@ -28,9 +28,12 @@ typedef struct {
 /*
  * Reads a capture from the file descriptor input, to its end or to the first refused byte, and writes its listing to the file descriptor
  * output: a line for each record, its number from 1 and its two answer bytes in upper-case hex; last a line `end`, the records
- * done and the finishing code. The capture may be of any length; it is read and written in blocks. Nothing is allocated; half a
- * megabyte of stack is enough. Both descriptors stay open. After a failure errno is that of the read or write that failed, and the
- * last line is missing.
+ * done and the finishing code. The capture may be of any length; it is read and written in blocks, so that bytes behind a refused one may
+ * be read as well. Nothing is allocated; half a megabyte of stack is enough. Both descriptors stay open.
+ *
+ * A read or a write that fails ends it, also one that a signal interrupts, or one that would have to wait on a descriptor that does
+ * not. errno is then what that call set, and the line `end` is missing or cut short. A write to a closed pipe raises SIGPIPE unless
+ * the caller ignores it.
  */
 lm89_listed lm89_list(int32_t input, int32_t output);
 

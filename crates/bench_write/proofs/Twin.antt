@@ -1,9 +1,9 @@
 -- The writer of record bytes against the writer of events. `is-event`: if the bytes read as an event, it is that event's writer.
 -- `is-the-writer`: so it is for the four bytes that any event is written as. `is-refused`: if they do not read as one, it gives the decoder's
--- 3 or 4. `one-writing`: two results that meet the promise are equal, and so are their buffers.
+-- 3 or 4. `one-record`: two results that meet the promise are equal, and so are their buffers.
 -- Assumes nothing.
 use Prim.Native.Nat.{ℕ}
-use mathlib.Core.Path.{_≡_, refl, sym, _∙_}
+use mathlib.Core.Path.{_≡_, refl, _∙_}
 use mathlib.Core.List.{List}
 use lib.ListN.{length, getD}
 use Rattle.laws.proofs.Choices.{by-test}
@@ -15,6 +15,7 @@ use Rattle.record.specs.declared.Refusal.the-variants.{Kind, Operand}
 use Rattle.record.specs.Record.{decodeOf, codeOf, encodeOf}
 use Rattle.record.specs.Writer.{writeEventOf, refuses, WroteEvent}
 use Rattle.record.proofs.RoundTrip.{reads-back, reads-refused, only-those}
+use Rattle.record.proofs.Writings.{one-writing}
 use Rattle.bench_write.specs.BenchWrite.{writeBytesOf, WroteBytes}
 
 module _ (kind a b c room : ℕ) where
@@ -42,6 +43,6 @@ unfolding writeEventOf codeOf
 is-the-writer e room =
     by-test (operandsOf e) (λ h. is-event _ _ _ _ room e (reads-back e h)) (λ h. is-refused _ _ _ _ room Operand (reads-refused e h) ∙ rw h)
 
-pub one-writing : (kind a b c : ℕ) {code code′ : ℕ} {entry exit exit′ : List ℕ}
+pub one-record : (kind a b c : ℕ) {code code′ : ℕ} {entry exit exit′ : List ℕ}
     → WroteBytes kind a b c code entry exit → WroteBytes kind a b c code′ entry exit′ → (code ≡ code′) × (exit ≡ exit′)
-one-writing kind a b c p q = (p .told ∙ sym (q .told), p .buffer ∙ sym (q .buffer))
+one-record kind a b c p q = one-writing p q

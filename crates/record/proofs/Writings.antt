@@ -1,4 +1,4 @@
--- The three ways out of a writer, and that its promise has one answer: `one-event`, `one-header`.
+-- The three ways out of a writer, and that its promise has one answer: `one-writing`, and so `one-event`, `one-header`.
 -- Assumes nothing.
 use mathlib.Core.Path.{_≡_, refl, sym, _∙_}
 use mathlib.Core.Bool.{Bool, true, false, cond}
@@ -27,7 +27,7 @@ module _ {good : Bool} (n room : ℕ) (bytes entry : List ℕ) (bad : ℕ) where
   written g h e = rw (g, le-leb n room h) (record { told = refl; buffer = e })
 
 -- two results that meet one promise are equal, and so are their buffers
-one-writing : {w : Writing} {code code′ : ℕ} {entry exit exit′ : List ℕ}
+pub one-writing : {w : Writing} {code code′ : ℕ} {entry exit exit′ : List ℕ}
     → Wrote w code entry exit → Wrote w code′ entry exit′ → (code ≡ code′) × (exit ≡ exit′)
 one-writing a b = (a .told ∙ sym (b .told), a .buffer ∙ sym (b .buffer))
 
