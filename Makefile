@@ -8,8 +8,10 @@ PRODUCTS := build/lib/liblm89.a build/lib/liblm89_list.a build/lib/lm89.h build/
 SOURCES := crates.txt include/lm89.h include/lm89_list.h command/lm89.c scripts/build.sh scripts/machine.sh \
     $(shell find crates -name must-fail -prune -o \( -type d -o -name '*.rt' -o -name '*.antt' \) -print)
 MISSING := $(filter-out $(wildcard $(PRODUCTS)),$(PRODUCTS))
+KIT := $(wildcard $(shell realpath "$$(command -v rt)" 2>/dev/null | sed 's,/[^/]*/[^/]*$$,/KIT-ID,'))
+ANOTHER_KIT := $(if $(KIT),$(shell cmp -s $(KIT) build/kit || echo yes))
 
-.PHONY: all list lib test misreadings speed install uninstall clean help $(if $(MISSING),build/built)
+.PHONY: all list lib test misreadings speed install uninstall clean help $(if $(MISSING)$(ANOTHER_KIT),build/built)
 .NOTPARALLEL:
 
 all: build/built ## build libraries and command: the default
@@ -30,7 +32,7 @@ lib: all ## build, and name what a C program includes and links
 test: ## the gate: prove everything from nothing, try the must-fail edits, run the tests
 	.ci/run
 
-misreadings: ## put misreadings of document 01 into the definitions: does a theorem notice each?
+misreadings: ## put misreadings of the rules into the definitions: does a theorem notice each?
 	@python3 tests/misreadings.py
 
 speed: ## nanoseconds a record, against the second program; megabytes a second of the listing

@@ -48,35 +48,47 @@ static int bad_usage(void)
 static int print(const char *text)
 {
     if (fputs(text, stdout) == EOF || fclose(stdout) != 0) {
-        say("standard output cannot be written: %s", strerror(errno));
+        say("standard output cannot be written: %s; send it elsewhere", strerror(errno));
         return FAILED;
     }
     return ACCEPTED;
 }
 
-static int help(char **words)
+static int help(void)
 {
-    (void)words;
     return print(USAGE
         "\n"
-        "lm89 list     lists a capture of an LM89, read from FILE, or from standard input with no FILE or with '-'. A line for\n"
-        "              each record: its number and its two answer bytes in hex. The last line is 'end', the records done\n"
-        "              and the code: 0, or 1 to 5 if the capture is refused, or 6 if it is cut short.\n"
-        "-h, --help    prints this text\n"
-        "--version     prints the version\n"
+        "lm89 list    lists a capture of an LM89, read from FILE, or from standard\n"
+        "             input with no FILE or with '-'. A line for each record: its\n"
+        "             number and its two answer bytes in hex. The last line is\n"
+        "             'end', the records done and the code: 0, or 1 to 5 if the\n"
+        "             capture is refused, or 6 if it is cut short.\n"
+        "-h, --help   prints this text\n"
+        "--version    prints the version\n"
         "\n"
         "Messages count bytes and records from 1.\n"
-        "Exit status: 0 the capture is accepted; 1 it is refused or cut short; 2 bad usage, or an input or output error.\n"
+        "Exit status: 0 the capture is accepted; 1 it is refused or cut short;\n"
+        "2 bad usage, or an input or output error.\n"
         "The manual page lm89(1) has the format of captures and the codes.\n");
+}
+
+static int surplus(const char *option, const char *word)
+{
+    say("'%s' stands behind %s, which takes no word", word, option);
+    return bad_usage();
+}
+
+static int help_alone(char **words)
+{
+    return *words == NULL ? help() : surplus("--help", *words);
 }
 
 static int version(char **words)
 {
-    (void)words;
-    return print("lm89 " VERSION(LM89_VERSION_MAJOR, LM89_VERSION_MINOR) "\n");
+    return *words == NULL ? print("lm89 " VERSION(LM89_VERSION_MAJOR, LM89_VERSION_MINOR) "\n") : surplus("--version", *words);
 }
 
-/* Why a capture is not accepted and what to do, by code. */
+/* Why a capture is not accepted and what to do, by code; lm89_list gives no other. */
 static const struct {
     const char *why;
     const char *advice;
@@ -85,8 +97,8 @@ static const struct {
     [LM89_CODE_VARIANT] = {"the variant is not 1, 2 or 3", "give 1 for LM89C, 2 for LM89-1C, 3 for LM89-1D"},
     [LM89_CODE_KIND] = {"its kind is not 1 to 7", "correct the record"},
     [LM89_CODE_OPERAND] = {"an operand is outside the table of kinds", "correct the record by the table in lm89(1)"},
-    [LM89_CODE_PAST_END] = {"it comes after the last counted record", "remove the rest, or correct the record count, bytes 3 to 6"},
-    [LM89_CODE_CUT_SHORT] = {"before its counted end", "add the missing bytes, or correct the record count, bytes 3 to 6"},
+    [LM89_CODE_PAST_END] = {"it comes after the last counted record", "remove the rest, or correct the record count (bytes 3 to 6)"},
+    [LM89_CODE_CUT_SHORT] = {"before its counted end", "add the missing bytes, or correct the record count (bytes 3 to 6)"},
 };
 
 static int judged(const char *name, lm89_listed listed)
@@ -123,11 +135,11 @@ static int list_file(const char *file)
     }
     lm89_listed listed = lm89_list(input, STDOUT_FILENO);
     if (listed.failure == LM89_LIST_NOT_READ) {
-        say("%s: cannot be read: %s; the listing is not complete", name, strerror(errno));
+        say("%s: cannot be read: %s; the listing is not complete: give a file that can be read", name, strerror(errno));
         return FAILED;
     }
     if (listed.failure == LM89_LIST_NOT_WRITTEN || fclose(stdout) != 0) {
-        say("standard output cannot be written: %s; the listing is not complete", strerror(errno));
+        say("standard output cannot be written: %s; the listing is not complete: send it elsewhere", strerror(errno));
         return FAILED;
     }
     return judged(name, listed);
@@ -147,7 +159,7 @@ static int list(char **words)
         if (option && strcmp(*words, "--") == 0) {
             options = false;
         } else if (option && asks_help(*words)) {
-            return help(words);
+            return help();
         } else if (option) {
             say("list: '%s' is no option", *words);
             return bad_usage();
@@ -167,14 +179,15 @@ static const struct {
     int (*run)(char **words);
 } commands[] = {
     {"list", list},
-    {"-h", help},
-    {"--help", help},
+    {"-h", help_alone},
+    {"--help", help_alone},
     {"--version", version},
 };
 
 int main(int count, char **words)
 {
     signal(SIGPIPE, SIG_IGN);
+    setvbuf(stderr, NULL, _IOLBF, BUFSIZ); /* a message is one write, so that those of two runs do not mix */
     if (count < 2) {
         say("no command is given");
         return bad_usage();

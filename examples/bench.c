@@ -5,7 +5,6 @@
 #include "lm89.h"
 
 #define RECORDS 9
-#define VERSION_UNIT 65536u /* of a major number in what lm89_version gives */
 #define UNKNOWN_REGISTER 0x30
 #define REMOTE_EIGHTHS (0x4F * 8 + 7) /* the last conversion's 79.875 degrees */
 #define HYSTERESIS 5
@@ -14,7 +13,7 @@
 static const uint8_t capture[LM89_HEADER_BYTES + LM89_RECORD_BYTES * RECORDS] = {
     0x01, LM89_VARIANT_LM89C, 0x00, 0x00, 0x00, RECORDS,
     LM89_KIND_WRITE, LM89_ADDRESS_LM89C, LM89_REGISTER_REMOTE_TCRIT, 0x55,
-    LM89_KIND_WRITE, LM89_ADDRESS_LM89C, LM89_WRITE_REMOTE_HIGH, 0x7F,
+    LM89_KIND_WRITE, LM89_ADDRESS_LM89C, LM89_WRITE_REMOTE_HIGH_LIMIT, 0x7F,
     LM89_KIND_CONVERSION, 0x19, 0x55, 0x20,
     LM89_KIND_READ, LM89_ADDRESS_LM89C, LM89_READ_STATUS, 0x00,
     LM89_KIND_WRITE, LM89_ADDRESS_LM89C, LM89_REGISTER_HYSTERESIS, HYSTERESIS,
@@ -43,16 +42,16 @@ static const uint8_t expected[RECORDS][LM89_ANSWER_BYTES] = {
     {0, 0},
 };
 
-/* A header and an archive of two versions give wrong answers: noticed here, before any. */
+/* A header and an archive of two major versions would give wrong answers: noticed here, before any. */
 static bool one_version(void)
 {
-    unsigned major = (unsigned)(lm89_version() / VERSION_UNIT);
-    unsigned minor = (unsigned)(lm89_version() % VERSION_UNIT);
+    unsigned major = (unsigned)(lm89_version() / LM89_VERSION_UNIT);
+    unsigned minor = (unsigned)(lm89_version() % LM89_VERSION_UNIT);
     if (major == LM89_VERSION_MAJOR) {
         return true;
     }
-    printf("lm89.h is of version %d.%d, liblm89.a of %u.%u: compile and link with both of one version\n", LM89_VERSION_MAJOR,
-           LM89_VERSION_MINOR, major, minor);
+    fprintf(stderr, "lm89.h is of version %d.%d, liblm89.a of %u.%u: compile and link with both of one version\n", LM89_VERSION_MAJOR,
+            LM89_VERSION_MINOR, major, minor);
     return false;
 }
 
@@ -94,8 +93,8 @@ static int run(void)
     uint8_t answers[LM89_ANSWER_BYTES * RECORDS] = {0};
     uint64_t result = lm89_run(capture, sizeof capture, answers, sizeof answers);
     int disagreements = 0;
-    if (result != 16 * sizeof answers + LM89_CODE_DONE) {
-        printf("run: %u answer bytes, code %u\n", (unsigned)(result / 16), (unsigned)(result % 16));
+    if (result != LM89_RUN_UNIT * sizeof answers + LM89_CODE_DONE) {
+        printf("run: %u answer bytes, code %u\n", (unsigned)(result / LM89_RUN_UNIT), (unsigned)(result % LM89_RUN_UNIT));
         disagreements++;
     }
     for (unsigned i = 0; i < RECORDS; i++) {
@@ -110,5 +109,5 @@ int main(void)
         return 1;
     }
     printf("%d records agree, stepped and run\n", RECORDS);
-    return 0;
+    return fclose(stdout) == 0 ? 0 : 1;
 }

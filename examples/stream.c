@@ -50,5 +50,9 @@ int main(void)
     }
     unsigned code = lm89_finish(reader);
     printf("%" PRIu32 " records, ALERT pulled after %" PRIu32 ", T_CRIT_A after %" PRIu32 ", code %u\n", reader.done, pins.alert, pins.tcrit, code);
+    if (fclose(stdout) != 0) {
+        fprintf(stderr, "stream: standard output cannot be written\n");
+        return 2;
+    }
     return code == LM89_CODE_DONE ? 0 : 1;
 }

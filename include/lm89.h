@@ -22,9 +22,13 @@
 extern "C" {
 #endif
 
-/* What this header was written for. Another major number: a struct or an answer is another. Compare with lm89_version(). */
+/*
+ * The version of this header. Under another major number a struct or an answer is another: before any other call test
+ * lm89_version() / LM89_VERSION_UNIT == LM89_VERSION_MAJOR.
+ */
 #define LM89_VERSION_MAJOR 1
 #define LM89_VERSION_MINOR 0
+#define LM89_VERSION_UNIT 65536u
 
 /* The parts. */
 enum {
@@ -52,47 +56,48 @@ enum {
     LM89_KIND_POWER_ON = 7,   /* 0, 0, 0 */
 };
 
-/* Bytes of a capture's header, of a record, and of a record's answer. */
+/* Bytes of a capture's header, of a record, and of a record's answer; what lm89_run counts an answer byte as. */
 enum {
     LM89_HEADER_BYTES = 6,
     LM89_RECORD_BYTES = 4,
     LM89_ANSWER_BYTES = 2,
+    LM89_RUN_UNIT = 16,
 };
 
 /*
- * Registers. A setting from configuration to remote low limit is read at one number and written at another; every other register in
- * the two lower groups that is both read and written has one number. No other register is acknowledged.
+ * Registers: LM89_READ_... are numbers to read at, LM89_WRITE_... numbers to write at; LM89_REGISTER_... are read and written at one number.
+ * No other number is acknowledged.
  */
 enum {
-    LM89_READ_LOCAL = 0x00,              /* local reading, degrees */
-    LM89_READ_REMOTE = 0x01,             /* remote reading, high byte: degrees */
-    LM89_READ_STATUS = 0x02,             /* LM89_STATUS_...; reading clears it */
-    LM89_READ_CONFIGURATION = 0x03,      /* LM89_CONFIGURATION_... */
-    LM89_READ_RATE = 0x04,               /* conversion rate, kept without effect */
-    LM89_READ_LOCAL_HIGH = 0x05,         /* local high limit */
-    LM89_READ_LOCAL_LOW = 0x06,          /* local low limit */
-    LM89_READ_REMOTE_HIGH = 0x07,        /* remote high limit, high byte */
-    LM89_READ_REMOTE_LOW = 0x08,         /* remote low limit, high byte */
-    LM89_READ_REMOTE_LOW_BYTE = 0x10,    /* remote reading, low byte: eighths in its top three bits */
-    LM89_READ_MANUFACTURER = 0xFE,       /* 01h */
-    LM89_READ_REVISION = 0xFF,           /* 31h, 34h, 35h in order of LM89_VARIANT_... */
+    LM89_READ_LOCAL = 0x00,             /* local reading, degrees */
+    LM89_READ_REMOTE = 0x01,            /* remote reading, high byte: degrees */
+    LM89_READ_STATUS = 0x02,            /* LM89_STATUS_...; reading clears it, and may set LM89_CONFIGURATION_ALERT_MASK */
+    LM89_READ_CONFIGURATION = 0x03,     /* LM89_CONFIGURATION_... */
+    LM89_READ_RATE = 0x04,              /* conversion rate, kept without effect */
+    LM89_READ_LOCAL_HIGH_LIMIT = 0x05,
+    LM89_READ_LOCAL_LOW_LIMIT = 0x06,
+    LM89_READ_REMOTE_HIGH_LIMIT = 0x07, /* high byte */
+    LM89_READ_REMOTE_LOW_LIMIT = 0x08,  /* high byte */
+    LM89_READ_REMOTE_LOW_BYTE = 0x10,   /* remote reading, low byte: eighths in its top three bits */
+    LM89_READ_MANUFACTURER = 0xFE,      /* 01h */
+    LM89_READ_REVISION = 0xFF,          /* 31h, 34h, 35h in order of LM89_VARIANT_... */
 
     LM89_WRITE_CONFIGURATION = 0x09,
     LM89_WRITE_RATE = 0x0A,
-    LM89_WRITE_LOCAL_HIGH = 0x0B,
-    LM89_WRITE_LOCAL_LOW = 0x0C,
-    LM89_WRITE_REMOTE_HIGH = 0x0D,
-    LM89_WRITE_REMOTE_LOW = 0x0E,
-    LM89_WRITE_ONE_SHOT = 0x0F,          /* any value: in standby one conversion is taken */
+    LM89_WRITE_LOCAL_HIGH_LIMIT = 0x0B,
+    LM89_WRITE_LOCAL_LOW_LIMIT = 0x0C,
+    LM89_WRITE_REMOTE_HIGH_LIMIT = 0x0D,
+    LM89_WRITE_REMOTE_LOW_LIMIT = 0x0E,
+    LM89_WRITE_ONE_SHOT = 0x0F,         /* any value: in standby one conversion is taken */
 
-    LM89_REGISTER_OFFSET = 0x11,                /* remote offset, high byte */
+    LM89_REGISTER_OFFSET = 0x11,        /* remote offset, high byte */
     LM89_REGISTER_OFFSET_LOW_BYTE = 0x12,
-    LM89_REGISTER_REMOTE_HIGH_LOW_BYTE = 0x13,  /* remote high limit, low byte */
-    LM89_REGISTER_REMOTE_LOW_LOW_BYTE = 0x14,   /* remote low limit, low byte */
+    LM89_REGISTER_REMOTE_HIGH_LIMIT_LOW_BYTE = 0x13,
+    LM89_REGISTER_REMOTE_LOW_LIMIT_LOW_BYTE = 0x14,
     LM89_REGISTER_REMOTE_TCRIT = 0x19,
     LM89_REGISTER_LOCAL_TCRIT = 0x20,
-    LM89_REGISTER_HYSTERESIS = 0x21,            /* T_CRIT hysteresis, degrees */
-    LM89_REGISTER_FILTER = 0xBF,                /* filter and alert: LM89_FILTER_... */
+    LM89_REGISTER_HYSTERESIS = 0x21,    /* of both T_CRITs, degrees */
+    LM89_REGISTER_FILTER = 0xBF,        /* filter and alert: LM89_FILTER_... */
 };
 
 /* Bits of status and of the live byte. D7, busy, is 0. */
@@ -125,14 +130,14 @@ enum {
 enum {
     LM89_SETTING_CONFIGURATION = 0,
     LM89_SETTING_RATE = 1,
-    LM89_SETTING_LOCAL_HIGH = 2,
-    LM89_SETTING_LOCAL_LOW = 3,
-    LM89_SETTING_REMOTE_HIGH = 4,
-    LM89_SETTING_REMOTE_LOW = 5,
+    LM89_SETTING_LOCAL_HIGH_LIMIT = 2,
+    LM89_SETTING_LOCAL_LOW_LIMIT = 3,
+    LM89_SETTING_REMOTE_HIGH_LIMIT = 4,
+    LM89_SETTING_REMOTE_LOW_LIMIT = 5,
     LM89_SETTING_OFFSET = 6,
     LM89_SETTING_OFFSET_LOW_BYTE = 7,
-    LM89_SETTING_REMOTE_HIGH_LOW_BYTE = 8,
-    LM89_SETTING_REMOTE_LOW_LOW_BYTE = 9,
+    LM89_SETTING_REMOTE_HIGH_LIMIT_LOW_BYTE = 8,
+    LM89_SETTING_REMOTE_LOW_LIMIT_LOW_BYTE = 9,
     LM89_SETTING_REMOTE_TCRIT = 10,
     LM89_SETTING_LOCAL_TCRIT = 11,
     LM89_SETTING_HYSTERESIS = 12,
@@ -149,7 +154,7 @@ enum {
     LM89_CODE_OPERAND = 4,      /* an operand is outside the table of kinds */
     LM89_CODE_PAST_END = 5,     /* a byte comes after the last counted record */
     LM89_CODE_CUT_SHORT = 6,    /* the capture ends before its counted end */
-    LM89_CODE_NO_ROOM = 7,      /* a valid record, and fewer than two bytes of room for its answers */
+    LM89_CODE_NO_ROOM = 7,      /* too little room: for a valid record's answer; in a writer, for what it writes */
     LM89_CODE_RANGE = 8,        /* the device or reader handed in is out of its ranges */
 };
 
@@ -181,7 +186,7 @@ typedef struct {
     lm89_sensed sensed;
     uint8_t variant;      /* LM89_VARIANT_... */
     uint8_t pointer;      /* a readable or writable register */
-    bool pending;         /* a one-shot is pending: only in standby, which is D6 of the configuration */
+    bool pending;         /* a one-shot is pending: only while LM89_CONFIGURATION_STANDBY is set */
     uint8_t status;       /* status bits gathered since status was last read; D7 is 0 */
     uint8_t settings[LM89_SETTINGS];
 } lm89_device;
@@ -200,9 +205,12 @@ typedef struct {
     lm89_device device; /* in its ranges; before two header bytes are taken its variant may be any number */
 } lm89_reader;
 
-/* What feeding a part gives. */
+/*
+ * What feeding a part gives. Where the code is LM89_CODE_NO_ROOM, or one of 1 to 5 that the reader did not hold before, the byte behind the
+ * consumed ones is the one judged.
+ */
 typedef struct {
-    uint64_t consumed;  /* bytes of the part that were taken; on 7, and on 1 to 5 unless the reader held it, the next is the one judged */
+    uint64_t consumed;  /* bytes of the part that were taken */
     uint64_t written;   /* answer bytes written */
     uint8_t code;       /* LM89_CODE_... */
     lm89_reader reader; /* the reader after it */
@@ -215,16 +223,17 @@ typedef struct {
     uint8_t second; /* the byte read, or 0 */
 } lm89_answer;
 
-/* The library's version: 65,536 times its major number plus its minor one. */
+/* The library's version: LM89_VERSION_UNIT times its major number plus its minor one. */
 uint32_t lm89_version(void);
 
 /*
- * Runs a whole capture on a device fresh from power-on. A capture is the device count, which is 1; the variant;
- * the record count in four bytes, highest first; and that many records of four bytes: kind, a, b, c.
+ * Runs a whole capture on a device fresh from power-on. A capture is the device count, which is 1; the variant, LM89_VARIANT_...;
+ * the record count in four bytes, highest first; and that many records of four bytes: kind, a, b, c, as LM89_KIND_... says.
  *
- * Each valid record's two answer bytes go, in order, to the front of answers; the bytes behind them are untouched.
- * Returns sixteen times the answer bytes written, plus a code. The code is the reader's, 1 to 5 or 7, if that is
- * not 0, and else the finishing one: 0 at the counted end, 6 before it. Code 8 is never returned.
+ * Each valid record's answer, LM89_ANSWER_BYTES, goes to the front of answers, behind those before it; every other byte there is untouched.
+ * Room for capture_length / 2 bytes is always enough. Returns LM89_RUN_UNIT times the answer bytes written, plus a code: that of the first
+ * byte that is not taken, LM89_CODE_DEVICE_COUNT to LM89_CODE_PAST_END (1 to 5) or LM89_CODE_NO_ROOM (7), as lm89_feed tells them; if all
+ * are taken LM89_CODE_DONE (0) at the counted end, LM89_CODE_CUT_SHORT (6) before it.
  */
 uint64_t lm89_run(const uint8_t *capture, size_t capture_length, uint8_t *answers, size_t answers_length);
 
@@ -232,35 +241,36 @@ uint64_t lm89_run(const uint8_t *capture, size_t capture_length, uint8_t *answer
 lm89_reader lm89_fresh(void);
 
 /*
- * Takes the next part of a capture, of any length and cut anywhere, and as much of it as can be. Each valid record's two answer bytes
- * go, in order, to the front of answers; the bytes behind them are untouched. The code is
- *   8 if the reader is out of its ranges; nothing is consumed or written, and the reader comes back as it was given;
+ * Takes the next part of a capture, of any length and cut anywhere, and as much of it as can be. Each valid record's answer, LM89_ANSWER_BYTES,
+ * goes to the front of answers, behind those of this call before it; every other byte there is untouched. The code is
+ *   LM89_CODE_RANGE (8) if the reader is out of its ranges; nothing is consumed or written, and the reader comes back as it was given;
  *   then the code that the reader holds, 1 to 5, if it holds one, for the empty part too; nothing is consumed or written;
- *   else, byte by byte, that of the first byte that is not taken, and 0 if all are:
- *     1 and 2 as header bytes come, 5 for a byte behind the last counted record,
- *     3, then 4, then 7 at a record's fourth byte.
+ *   else, byte by byte, that of the first byte that is not taken, and LM89_CODE_DONE (0) if all are:
+ *     LM89_CODE_DEVICE_COUNT (1) and LM89_CODE_VARIANT (2) as header bytes come,
+ *     LM89_CODE_PAST_END (5) for a byte behind the last counted record,
+ *     LM89_CODE_KIND (3), then LM89_CODE_OPERAND (4), then LM89_CODE_NO_ROOM (7) at a record's fourth byte.
  * A byte that is judged 1 to 5 or 7 is not consumed, and what came before it stays consumed. Codes 1 to 5 last: the reader holds them.
- * 7 does not: give the unread rest again, with room for two bytes or more.
+ * LM89_CODE_NO_ROOM does not: give the unread rest again, with room for LM89_ANSWER_BYTES or more.
  *
- * If every 7 is answered so, then however a capture is cut and whatever room each call has, the answers joined, the bytes consumed, the
- * last code, the finishing code and the reader at the end are the same; lm89_run with room for every answer gives those answers, and
- * the last code if it is not 0, else the finishing one.
+ * If every LM89_CODE_NO_ROOM is answered so, then however a capture is cut and whatever room each call has, the answers joined, the bytes
+ * consumed, the last code, the finishing code and the reader at the end are the same; lm89_run with room for every answer gives those
+ * answers, and the last code if it is not 0, else the finishing one.
  */
 lm89_fed lm89_feed(lm89_reader reader, const uint8_t *input, size_t length, uint8_t *answers, size_t room);
 
 /*
- * Asked at the end of the capture: 8 if the reader is out of its ranges, then the code that it holds, then 6 if the capture is not at its
- * counted end, else 0.
+ * Asked at the end of the capture: LM89_CODE_RANGE (8) if the reader is out of its ranges, then the code that it holds, then
+ * LM89_CODE_CUT_SHORT (6) if the capture is not at its counted end, else LM89_CODE_DONE (0).
  */
 uint8_t lm89_finish(lm89_reader reader);
 
 /*
  * One event, given as its record's four bytes, on the device where it stands. The answer's code is
- *   8 if the device is out of its ranges or its variant is not 1 to 3 (a device of all zeros too),
- *   then 3 if the kind is not 1 to 7,
- *   then 4 if an operand is outside the table of kinds,
- *   else 0.
- * On 8, 3 and 4 both answer bytes are 0 and the device is not changed.
+ *   LM89_CODE_RANGE (8) if the device is out of its ranges or its variant is not 1 to 3 (a device of all zeros too),
+ *   then LM89_CODE_KIND (3) if the kind is not 1 to 7,
+ *   then LM89_CODE_OPERAND (4) if an operand is outside the table of kinds,
+ *   else LM89_CODE_DONE (0).
+ * On a code other than 0 both answer bytes are 0 and the device is not changed.
  */
 lm89_answer lm89_step(lm89_device *device, uint8_t kind, uint8_t a, uint8_t b, uint8_t c);
 
@@ -268,15 +278,17 @@ lm89_answer lm89_step(lm89_device *device, uint8_t kind, uint8_t a, uint8_t b, u
 lm89_device lm89_power_on(uint8_t variant);
 
 /*
- * Writes a capture's header, LM89_HEADER_BYTES of them, to the front of room: 2 if the variant is not 1 to 3, then 7 if length is
- * less than six, else 0. On 2 and 7 nothing is written; the bytes behind the header are untouched.
+ * Writes a capture's header, LM89_HEADER_BYTES of them, to the front of room: LM89_CODE_VARIANT (2) if the variant is not 1 to 3, then
+ * LM89_CODE_NO_ROOM (7) if length is less, else LM89_CODE_DONE (0). On a code other than 0 nothing is written; the bytes behind the header
+ * are untouched.
  */
 uint8_t lm89_write_header(uint8_t variant, uint32_t count, uint8_t *room, size_t length);
 
 /*
- * Writes an event's record, LM89_RECORD_BYTES of them, kind, a, b, c, to the front of room: 3 if the kind is not 1 to 7, then 4 if an
- * operand is outside the table of kinds, then 7 if length is less than four, else 0. On 3, 4 and 7 nothing is written; the bytes
- * behind the record are untouched. What is written is read back as that event, and no other bytes are.
+ * Writes an event's record, LM89_RECORD_BYTES of them, kind, a, b, c, to the front of room: LM89_CODE_KIND (3) if the kind is not 1 to 7,
+ * then LM89_CODE_OPERAND (4) if an operand is outside the table of kinds, then LM89_CODE_NO_ROOM (7) if length is less, else
+ * LM89_CODE_DONE (0). On a code other than 0 nothing is written; the bytes behind the record are untouched. What is written is read back
+ * as that event, and no other bytes are.
  */
 uint8_t lm89_write_event(uint8_t kind, uint8_t a, uint8_t b, uint8_t c, uint8_t *room, size_t length);
 

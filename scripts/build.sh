@@ -1,7 +1,7 @@
 #!/usr/bin/env bash
 # build/lib gets liblm89.a, liblm89_list.a and their headers; build/bin gets the command lm89, elsewhere than on x86-64 with a
 # wrapper that runs it through the kit's emulator. Archives are made anew only where the kit or a crate has changed since.
-# build/built is as old as the start of the last build that succeeded.
+# build/built is as old as the start of the last build that succeeded, build/kit the identity of the kit that made it.
 set -euo pipefail
 cd "$(dirname "$0")/.."
 source scripts/machine.sh
@@ -91,5 +91,6 @@ origin=$(origin_now) || stop "the kit's version or the crates cannot be read, se
 make_archives
 make_libraries
 make_command
+cp "$kit/KIT-ID" build/kit
 mv build/started build/built
 say "$library, $listing_library and build/bin/lm89 are up to date"

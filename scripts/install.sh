@@ -4,8 +4,15 @@ set -euo pipefail
 cd "$(dirname "$0")/.."
 
 PREFIX=${PREFIX-/usr/local}
-[[ $PREFIX == /* ]] || PREFIX=$PWD/$PREFIX
 root=${DESTDIR-}$PREFIX
+
+stop() {
+    printf 'install.sh: %s\n' "$*" >&2
+    exit 2
+}
+
+[[ $PREFIX == /* ]] || stop "PREFIX is '$PREFIX': give a whole path, as PREFIX=/usr/local"
+[ ! "$root/include/lm89.h" -ef include/lm89.h ] || stop "$root is this repository: give another PREFIX"
 
 # Mode, file and place under the prefix.
 files=(
@@ -32,7 +39,7 @@ write_pkg_config() {
 }
 
 put() {
-    install -D -m "$1" "$2" "$root/$3"
+    install -D -m "$1" "$2" "$root/$3" || stop "$root cannot be written: become root, or give another PREFIX"
     printf 'installed: %s\n' "$root/$3"
 }
 
@@ -49,8 +56,7 @@ install)
     ;;
 uninstall) action=remove ;;
 *)
-    printf "install.sh: give 'install' or 'uninstall'\n" >&2
-    exit 2
+    stop "give 'install' or 'uninstall'"
     ;;
 esac
 for line in "${files[@]}"; do

@@ -9,7 +9,7 @@ toolchain=$kit/on/$machine/toolchain
 emulator=("$toolchain/bin/qemu-x86_64" "$toolchain/lib/ld-linux-x86-64.so.2" --library-path "$toolchain/lib")
 library=build/lib/liblm89.a
 listing_library=build/lib/liblm89_list.a
-flags=(-std=c11 -O2 -Wall -Wextra -Werror -pedantic -Iinclude)
+flags=(-std=c11 -O2 -Wall -Wextra -pedantic -Iinclude)
 
 # For x86-64 on any machine: the machine's clang, else the kit's with the headers of the machine's cc.
 across=(clang)

@@ -1,9 +1,10 @@
 #!/usr/bin/env bash
-# What members run: the C examples and the C tests on the library, the listing of every sample held to the file beside it, each of
+# What users run: the C examples and the C tests on the library, the listing of every sample held to the file beside it, each of
 # them in parts too, and a large capture in blocks of several sizes. Exits non-zero at the first failure.
 set -euo pipefail
 cd "$(dirname "$0")/.."
 source scripts/machine.sh
+flags+=(-Werror)
 
 stop() {
     printf 'bench: %s\n' "$*" >&2
@@ -29,7 +30,7 @@ other_version() {
         flags=("-I$other" "${flags[@]}")
         program other-version/example examples/bench.c
     )
-    ! run "$other/example" >"$other/said" || stop "examples/bench.c accepts a header of another major version than the library's"
+    ! run "$other/example" >"$other/said" 2>&1 || stop "examples/bench.c accepts a header of another major version than the library's"
     grep -q 'lm89.h is of version 65535' "$other/said" || stop "examples/bench.c says '$(<"$other/said")' of a header of another version"
     printf 'c: another version is noticed\n'
 }
@@ -46,12 +47,14 @@ same() {
     }
 }
 
-# By the library from C, whole and in parts; tests/command.sh lists the samples by the command.
+# By the library from C, whole and in parts, and by the program; tests/command.sh lists the samples by the command.
 sample() {
     python3 tests/hex.py "samples/$1.hex" >build/capture || stop "samples/$1.hex is not hex text, see above"
     run build/list <build/capture >build/listed || stop "build/list failed on samples/$1.hex"
     same "samples/$1.listing" build/listed "lm89_run on samples/$1.hex gives another listing than samples/$1.listing"
     run build/feed build/capture || stop "lm89_feed on parts of samples/$1.hex gives something else than lm89_run, see above"
+    run target/bin/listing <build/capture >build/listed || stop "the program failed on samples/$1.hex"
+    same "samples/$1.listing" build/listed "the program gives another listing of samples/$1.hex than samples/$1.listing"
     printf 'sample: %s ok\n' "$1"
 }
 
@@ -72,7 +75,21 @@ streamed() {
     printf 'c: stream ok\n'
 }
 
+# What the program listing says where input or output fails; it has no exit status.
+program_says() {
+    local said
+    said=$(run target/bin/listing 2>&1 >"$1" <"$2")
+    [[ $said == $3 ]] || stop "the program says '$said', expected '$3'"
+    printf 'program: %s ok\n' "$3"
+}
+
 scripts/build.sh
+needed=$(nm -u "$library" | grep ' U ' || true)
+[ -z "$needed" ] || stop "$library needs another library: $needed"
+rt check listing >build/listing.log 2>&1 || {
+    cat build/listing.log
+    stop "the program listing is not proved, see above"
+}
 scripts/inlined.sh || stop "the library is not inlined as it must be, see above"
 passes example examples/bench.c
 other_version
@@ -93,6 +110,9 @@ run build/list <build/capture >build/expected
 [ "$(tail -n 1 build/expected)" = "end 20000 0" ] || stop "the large capture ends with '$(tail -n 1 build/expected)'"
 run build/feed build/capture || stop "lm89_feed on parts of the large capture gives something else than lm89_run, see above"
 streamed
+program_says /dev/full build/capture 'listing: standard output cannot be written: *'
+program_says /dev/full /dev/null 'listing: standard output cannot be written: *'
+program_says /dev/null . 'listing: standard input cannot be read: *'
 for size in 1 3 4 7 65536; do
     blocks "$size"
 done

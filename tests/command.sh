@@ -4,6 +4,7 @@
 set -euo pipefail
 cd "$(dirname "$0")/.."
 source scripts/machine.sh
+flags+=(-Werror)
 unset MAKEFLAGS MAKELEVEL MFLAGS PREFIX DESTDIR CAPTURE
 export LC_ALL=C
 
@@ -52,6 +53,11 @@ in_folder() {
 
 to_full_disk() {
     "$@" >/dev/full
+}
+
+# Kilobytes of stack.
+with_stack() {
+    (ulimit -s "$1" && "${@:2}")
 }
 
 input_closed() {
@@ -133,12 +139,19 @@ test_names() {
     wrote_nothing
 }
 
+# As much stack as include/lm89_list.h promises to be enough; through the emulator the limit is the emulator's own.
+test_small_stack() {
+    [ "$machine" = x86_64 ] || return 0
+    ends 'small stack' 0 '' with_stack 512 "$lm89" list "$here/01-document"
+    wrote samples/01-document.listing
+}
+
 test_full_disk() {
     local full='lm89: standard output cannot be written: No space left on device'
-    ends 'full disk, lines' 2 "$full; the listing is not complete" to_full_disk "$lm89" list "$here/01-document"
-    ends 'full disk, last line alone' 2 "$full; the listing is not complete" from /dev/null to_full_disk "$lm89" list
-    ends 'full disk, help' 2 "$full" to_full_disk "$lm89" --help
-    ends 'full disk, version' 2 "$full" to_full_disk "$lm89" --version
+    ends 'full disk, lines' 2 "$full; the listing is not complete: *" to_full_disk "$lm89" list "$here/01-document"
+    ends 'full disk, last line alone' 2 "$full; the listing is not complete: *" from /dev/null to_full_disk "$lm89" list
+    ends 'full disk, help' 2 "$full; send it elsewhere" to_full_disk "$lm89" --help
+    ends 'full disk, version' 2 "$full; send it elsewhere" to_full_disk "$lm89" --version
 }
 
 # The command, with an output that cannot be closed.
@@ -148,18 +161,18 @@ test_failing_close() {
         flags+=(-D_POSIX_C_SOURCE=200809L -include tests/c/failing_close.h)
         compile_link "$here/failing" command/lm89.c "$listing_library"
     ) || stop "command/lm89.c does not compile or link with tests/c/failing_close.h, see above"
-    ends 'output not closed, list' 2 "$failing; the listing is not complete" run "$here/failing" list "$here/01-document"
+    ends 'output not closed, list' 2 "$failing; the listing is not complete: *" run "$here/failing" list "$here/01-document"
     wrote samples/01-document.listing
-    ends 'output not closed, version' 2 "$failing" run "$here/failing" --version
+    ends 'output not closed, version' 2 "$failing; send it elsewhere" run "$here/failing" --version
 }
 
 test_closed() {
     local closed='cannot be written: Bad file descriptor' broken='cannot be written: Broken pipe'
     ends 'closed output, by name' 2 "lm89: standard output $closed; *" output_closed "$lm89" list "$here/01-document"
     ends 'closed output, by standard input' 2 "lm89: standard output $closed; *" from "$here/01-document" output_closed "$lm89" list
-    ends 'closed output, help' 2 "lm89: standard output $closed" output_closed "$lm89" --help
+    ends 'closed output, help' 2 "lm89: standard output $closed; send it elsewhere" output_closed "$lm89" --help
     ends 'closed pipe' 2 "lm89: standard output $broken; *" to_closed_pipe "$lm89" list "$here/01-document"
-    ends 'closed pipe, version' 2 "lm89: standard output $broken" to_closed_pipe "$lm89" --version
+    ends 'closed pipe, version' 2 "lm89: standard output $broken; send it elsewhere" to_closed_pipe "$lm89" --version
     ends 'closed input' 2 'lm89: standard input: cannot be read: Bad file descriptor; *' input_closed "$lm89" list
     wrote_nothing
     ends 'closed input, by name' 0 '' input_closed "$lm89" list "$here/01-document"
@@ -182,6 +195,8 @@ test_usage() {
     misused 'no word' 'no command is given'
     misused 'another word' "'listing' is no command" listing
     misused 'another option' "'--lines' is no command" --lines
+    misused 'a word behind --version' "'now' stands behind --version, which takes no word" --version now
+    misused 'a word behind --help' "'list' stands behind --help, which takes no word" --help list
     misused 'an empty word' "'' is no command" ''
     misused 'option of list' "list: '--lines' is no option" list --lines
     misused 'option behind a file' "list: '-n' is no option" list "$here/01-document" -n
@@ -193,7 +208,7 @@ test_help() {
     local asked
     ends 'help' 0 '' "$lm89" --help
     cp "$here/out" "$here/help"
-    for part in 'usage: lm89 list \[FILE\]' 'lm89 --help | --version' 'Exit status: 0 .* 1 .* 2 ' 'count bytes and records from 1'; do
+    for part in 'usage: lm89 list \[FILE\]' 'lm89 --help | --version' 'Exit status: 0 .* 1 ' 'count bytes and records from 1'; do
         grep -q "$part" "$here/help" || stop "help has no line like '$part'"
     done
     for asked in -h 'list --help' 'list -h' 'list a --help'; do
@@ -264,6 +279,10 @@ test_make_again() {
         command/lm89.c scripts/build.sh; do
         ends "make, $source changed" 1 '' make -q -W "$source"
     done
+    cp build/kit "$here/kit"
+    printf 'another kit\n' >build/kit
+    ends 'make, another kit' 1 '' make -q
+    cp "$here/kit" build/kit
     mv build/lib/liblm89_list.a "$here/away"
     ends 'make, a library missing' 1 '' make -q
     mv "$here/away" build/lib/liblm89_list.a
@@ -295,6 +314,32 @@ says() {
     grep -qxF "$2" "$1/lib/pkgconfig/lm89.pc" || stop "$name: $1/lib/pkgconfig/lm89.pc has no line '$2'"
 }
 
+# PREFIX MESSAGE: neither installs nor removes anything.
+no_prefix() {
+    local action
+    for action in install uninstall; do
+        ends "make $action, PREFIX=$1" 2 "install.sh: $2"$'\n''make: \*\*\* *' without_rt make -s "$action" PREFIX="$1"
+    done
+    [ -f include/lm89.h ] || stop "make uninstall PREFIX=$1 removed include/lm89.h"
+}
+
+test_prefix() {
+    no_prefix '' "PREFIX is '': give a whole path, *"
+    no_prefix . "PREFIX is '.': give a whole path, *"
+    no_prefix "$PWD" "$PWD is this repository: *"
+}
+
+# By pkg-config, where it is there: a prefix with a blank in its name.
+test_pkg_config() {
+    local prefix="$PWD/$here/a prefix" words=
+    command -v pkg-config >/dev/null || return 0
+    ends 'make install, a blank in PREFIX' 0 '' without_rt make -s install PREFIX="$prefix"
+    words=$(PKG_CONFIG_PATH=$prefix/lib/pkgconfig pkg-config --cflags --libs lm89) || stop 'pkg-config does not read lm89.pc'
+    eval "words=($words)"
+    [ "${words[0]}" = "-I$prefix/include" ] && [ "${words[1]}" = "-L$prefix/lib" ] || stop "pkg-config says '${words[*]}'"
+    printf 'command: pkg-config\n'
+}
+
 test_install() {
     local prefix=$PWD/$here/prefix dest=$here/dest
     rm -rf "$prefix" "$dest"
@@ -324,6 +369,7 @@ mkdir -p "$here"
 test_samples
 test_messages
 test_names
+test_small_stack
 test_full_disk
 test_failing_close
 test_closed
@@ -334,3 +380,5 @@ test_make_list
 test_make_again
 test_make_help
 test_install
+test_prefix
+test_pkg_config

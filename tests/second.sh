@@ -14,7 +14,6 @@ stop() {
 cc "${flags[@]}" -fsanitize=address,undefined -fno-sanitize-recover=all -o build/second-selftest second/second.c second/selftest.c
 ASAN_OPTIONS=detect_leaks=0 build/second-selftest || stop "second/selftest.c failed, see above"
 cc "${flags[@]}" -o build/second-listing second/second.c second/listing.c
-cc "${flags[@]}" -o build/second-replay second/second.c second/replay.c
 for hex in samples/*.hex; do
     python3 tests/hex.py <"$hex" | build/second-listing >build/listed
     cmp "${hex%.hex}.listing" build/listed || stop "$hex has another listing in the second program"

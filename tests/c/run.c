@@ -10,8 +10,8 @@
 /* Two records: a write of the local high limit, and a read of it. */
 static const uint8_t two[] = {
     0x01, LM89_VARIANT_LM89_1C, 0x00, 0x00, 0x00, 0x02,
-    LM89_KIND_WRITE, LM89_ADDRESS_LM89_1C, LM89_WRITE_LOCAL_HIGH, 0x50,
-    LM89_KIND_READ, LM89_ADDRESS_LM89_1C, LM89_READ_LOCAL_HIGH, 0x00,
+    LM89_KIND_WRITE, LM89_ADDRESS_LM89_1C, LM89_WRITE_LOCAL_HIGH_LIMIT, 0x50,
+    LM89_KIND_READ, LM89_ADDRESS_LM89_1C, LM89_READ_LOCAL_HIGH_LIMIT, 0x00,
 };
 
 static const uint8_t two_answers[] = {0x04, 0x00, 0x04, 0x50};
