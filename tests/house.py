@@ -10,6 +10,8 @@ import re
 import sys
 
 ROOT = pathlib.Path(__file__).resolve().parent.parent
+# a line on which a function's body begins
+OPENS = re.compile(r"^\{\s*$|\) \{\s*$|-> \S.* \{$")
 WORD = re.compile(r"[^\s(){}\[\],;.]+")
 
 
@@ -47,7 +49,7 @@ def functions(path):
             while not lines[end].startswith("}"):
                 end += 1
             open_brace = at
-            while not re.match(r"\{\s*$", lines[open_brace]) and not lines[open_brace].rstrip().endswith(") {") and not re.search(r"-> \S.* \{$", lines[open_brace]):
+            while not OPENS.search(lines[open_brace]):
                 open_brace += 1
             yield at + 1, "\n".join(lines[at : open_brace + 1]), end - at + 1
             at = end

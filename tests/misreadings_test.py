@@ -86,7 +86,10 @@ BAD = {
 CHANGED = {("crates/a/specs/A.antt", "aboveOf")}
 # what rt says of an edit, and how the verdict begins
 SAID = [
-    ("crates/a/specs/A.antt:10:3: error: `strict`: they differ\ncrates/a/specs/A.antt:5:1: error[x]: `Row`: they differ", "noticed by a/specs/A.antt: strict (law)"),
+    (
+        "crates/a/specs/A.antt:10:3: error: `strict`: they differ\ncrates/a/specs/A.antt:5:1: error[x]: `Row`: they differ",
+        "noticed by a/specs/A.antt: strict (law)",
+    ),
     ("crates/a/specs/A.antt:10:3: error: `strict`: they differ", "NOT NOTICED by a/specs/A.antt: Row; refused at a/specs/A.antt: strict"),
     ("crates/a/specs/A.antt:10:3: error: `strict`: `x` was not admitted, so this cannot be checked", "NOT NOTICED by"),
     ("crates/a/specs/A.antt:3:9: error: `aboveOf`: they differ", "ILL-FORMED: a/specs/A.antt: aboveOf"),
