@@ -20,7 +20,7 @@ use Rattle.lines_laws.proofs.Turns.{last-whole, last-finishing, any-rest, lists
 use Rattle.lines_laws.proofs.Endings.{turns-end}
 use Rattle.bench_list.specs.declared.Listed.{Listed}
 use Rattle.bench_list.specs.List.{toldOf, listedOf, Listing, Lists}
-use Rattle.bench_list.specs.List.Lists.{whole, not-read, not-written}
+use Rattle.bench_list.specs.List.Lists.{in-full, not-read, not-written}
 
 -- ---- one listing
 
@@ -34,7 +34,7 @@ told-as {parts} {rest} o k =
 
 -- of every result that is told as whole there are such turns
 pub when-whole : {r : Listed} → Lists r → r .failure ≡ 0 → Listing r
-when-whole (whole w) z = w
+when-whole (in-full w) z = w
 when-whole not-read z = absurd (omega arith)
 when-whole not-written z = absurd (omega arith)
 

@@ -2,11 +2,11 @@
 -- Assumes nothing.
 use Prim.Native.Nat.{ℕ, _-_, _<_}
 use mathlib.Core.Path.{_≡_, refl, sym, ap, _∙_}
-use mathlib.Core.Bool.{Bool, true, false, _&&_}
+use mathlib.Core.Bool.{Bool, true, false}
 use mathlib.Core.List.{List, [], _∷_, _++_, append-assoc, append-nil}
 use native.Mathlib.Omega.{arith}
 use lib.Dec.{ltb, eqb}
-use lib.IntN.{ℤ, pos, negsuc}
+use lib.IntN.{ℤ}
 use lib.ListN.{length, take}
 use borrow.Author.Tests.{ltb-true, ltb-false, eqb-true, eqb-false}
 use Rattle.laws.proofs.Choices.{clash, by-test, and-left, and-right}
@@ -21,14 +21,14 @@ use Rattle.lines_laws.specs.Turns.{Turn, Turns, Unread, End, Output}
 use Rattle.lines_laws.specs.Turns.Turns.{at-end, refused, goes-on}
 use Rattle.lines_laws.proofs.Turns.{turn-ranges, turn-taken, any-rest}
 use Rattle.bench_list.specs.declared.Listed.{Listed}
+use Rattle.bench_list.specs.declared.Part.{Part}
 use Rattle.bench_list.specs.declared.Went.{Went}
-use Rattle.bench_list.specs.List.{failedOf, wroteOf, endedOf, Took, TookRead, Turned, Ended, Lists}
-use Rattle.bench_list.specs.List.Lists.{whole, not-read, not-written}
+use Rattle.bench_list.specs.List.{whole, failedOf, Lists}
+use Rattle.bench_list.specs.Loop.{moreOf, ReadLaid, wroteOf, Turned, endedOf, Ended}
+use Rattle.bench_list.specs.Loop.ReadLaid.{no-part, a-part}
+use Rattle.bench_list.specs.List.Lists.{in-full, not-read, not-written}
 
 -- ---- one turn
-
-abbrev more : List ℕ → Fed → Bool
-more part r = ltb 0 (length part) && eqb (r .code) 0
 
 -- one that did not fail
 pub record Succeeded (s : Reader) (w : Went) : Type 0 where
@@ -38,40 +38,36 @@ pub record Succeeded (s : Reader) (w : Went) : Type 0 where
   pub bytes : Bytes part
   pub turn : Turn s part r text
   pub reader : w .reader ≡ r .reader
-  pub goes : w .goes ≡ more part r
+  pub goes : w .goes ≡ moreOf part r
 
-succeeded-took : {s : Reader} {part : List ℕ} {w : Went} (t : Took s part w) (written : Bool) → w ≡ wroteOf (t .r .reader) (more part (t .r)) written
-    → w .failure ≡ 0 → Succeeded s w
-succeeded-took {part = part} t true e z =
+succeeded-read : {s : Reader} {got : ℤ} {buffer blank page : List ℕ} {p : Part} {w : Went} → ReadLaid s got buffer p blank page → (written : Bool)
+    → w ≡ wroteOf p written → w .failure ≡ whole → Succeeded s w
+succeeded-read l false e z = absurd (omega (arith, ap (λ (w : Went). w .failure) e))
+succeeded-read no-part true e z = absurd (omega (arith, ap (λ (w : Went). w .failure) e))
+succeeded-read (a-part l) true e z =
+    let told = e ∙ ap (λ (p : Part). wroteOf p true) (l .told) in
     record {
-      part = part;
-      r = t .r;
-      text = t .text;
-      bytes = t .bytes;
-      turn = t .turn;
-      reader = ap (λ (w : Went). w .reader) e;
-      goes = ap (λ (w : Went). w .goes) e;
+      part = _;
+      r = l .r;
+      text = l .text;
+      bytes = l .bytes;
+      turn = l .turn;
+      reader = ap (λ (w : Went). w .reader) told;
+      goes = ap (λ (w : Went). w .goes) told;
     }
-succeeded-took t false e z = absurd (omega (arith, ap (λ (w : Went). w .failure) e))
 
-succeeded-read : (s : Reader) {w : Went} (got : ℤ) (buffer : List ℕ) → TookRead s got buffer w → w .failure ≡ 0 → Succeeded s w
-succeeded-read s (pos n) buffer t z = succeeded-took t (t .written) (t .told) z
-succeeded-read s (negsuc n) buffer e z = absurd (omega (arith, ap (λ (w : Went). w .failure) e))
-
-pub succeeded : {s : Reader} {w : Went} → Turned s w → w .failure ≡ 0 → Succeeded s w
-succeeded {s} t = succeeded-read s (t .got) (t .buffer) (t .took)
+pub succeeded : {s : Reader} {w : Went} → Turned s w → w .failure ≡ whole → Succeeded s w
+succeeded t = succeeded-read (t .laid) (t .written) (t .told)
 
 -- and one that did
-failed-took : {w : Went} (s : Reader) (goes written : Bool) → w ≡ wroteOf s goes written → (w .failure ≡ 0 → ⊥) → Lists (failedOf (w .failure))
-failed-took s goes true e n = absurd (n (ap (λ (w : Went). w .failure) e))
-failed-took s goes false e n = rw (ap (λ (w : Went). w .failure) e) not-written
+failed-read : {s : Reader} {got : ℤ} {buffer blank page : List ℕ} {p : Part} {w : Went} → ReadLaid s got buffer p blank page → (written : Bool)
+    → w ≡ wroteOf p written → (w .failure ≡ whole → ⊥) → Lists (failedOf (w .failure))
+failed-read l false e f = rw (ap (λ (w : Went). w .failure) e) not-written
+failed-read no-part true e f = rw (ap (λ (w : Went). w .failure) e) not-read
+failed-read (a-part l) true e f = absurd (f (ap (λ (w : Went). w .failure) (e ∙ ap (λ (p : Part). wroteOf p true) (l .told))))
 
-failed-read : (s : Reader) (w : Went) (got : ℤ) (buffer : List ℕ) → TookRead s got buffer w → (w .failure ≡ 0 → ⊥) → Lists (failedOf (w .failure))
-failed-read s w (pos n) buffer t f = failed-took (t .r .reader) (more (take n buffer) (t .r)) (t .written) (t .told) f
-failed-read s w (negsuc n) buffer e f = rw (ap (λ (w : Went). w .failure) e) not-read
-
-pub failed : {s : Reader} {w : Went} → Turned s w → (w .failure ≡ 0 → ⊥) → Lists (failedOf (w .failure))
-failed {s} {w} t = failed-read s w (t .got) (t .buffer) (t .took)
+pub failed : {s : Reader} {w : Went} → Turned s w → (w .failure ≡ whole → ⊥) → Lists (failedOf (w .failure))
+failed t = failed-read (t .laid) (t .written) (t .told)
 
 -- ---- turns so far
 
@@ -140,6 +136,9 @@ module _ {s : Reader} {w : Went} (f : SoFar s) (g : Succeeded s w) where
         (λ h. let l = ltb-false 0 (length (g .part)) h in no-byte (g .part) (omega arith) (g .turn)))
         (λ z. refused (g .turn) (eqb-false (g .r .code) 0 z))
 
+    end-of : {r : Listed} (d : Ended (g .r .reader) r) → End (g .r .reader) (take (d .line .size) (d .page))
+    end-of d = record { blank = d .blank; page = d .page; size = d .line .size; wide = d .wide; lined = d .laid .lined; written = refl }
+
     output : (line : List ℕ) → End (g .r .reader) line → (rest : List ℕ) → Unread (g .r .reader) rest
         → Output all rest ((f .text ++ g .text) ++ line) (g .r .reader)
     output line end rest u =
@@ -148,13 +147,13 @@ module _ {s : Reader} {w : Went} (f : SoFar s) (g : Succeeded s w) where
 
     over-ended : {r : Listed} (d : Ended (g .r .reader) r) (written : Bool) → r ≡ endedOf (g .r .reader) (finishOf (g .r .reader)) written → Lists r
     over-ended d true h =
-        whole
+        in-full
         (record {
           parts = all;
-          output = (f .text ++ g .text) ++ d .line;
+          output = (f .text ++ g .text) ++ take (d .line .size) (d .page);
           last = g .r .reader;
           bytes = all-bytes;
-          written = output (d .line) (d .end);
+          written = output _ (end-of d);
           told = h;
         })
     over-ended d false h = rw h not-written
