@@ -3,7 +3,7 @@
 use Prim.Native.Nat.{ℕ, _-_, _<_}
 use mathlib.Core.Path.{_≡_, refl, sym, ap, _∙_}
 use mathlib.Core.Bool.{Bool, true, false}
-use mathlib.Core.List.{List, [], _∷_, _++_, append-assoc, append-nil}
+use mathlib.Core.List.{List, [], _∷_, _++_, append-assoc}
 use native.Mathlib.Omega.{arith}
 use lib.Dec.{ltb, eqb}
 use lib.IntN.{ℤ}
@@ -15,11 +15,11 @@ use Rattle.capture.specs.declared.Fed.{Fed}
 use Rattle.capture.specs.Reader.{freshOf, finishOf, rangesOf}
 use Rattle.capture_laws.specs.Schedule.{joined, Bytes}
 use Rattle.capture_laws.specs.Places.{consumedOf}
-use Rattle.capture_laws.proofs.Cuts.{fresh-ranges, bytes-left, bytes-right, bytes-join}
+use Rattle.capture_laws.proofs.Cuts.{fresh-ranges, bytes-then}
 use Rattle.capture_laws.proofs.Consumed.{captureMost, consumed-most}
-use Rattle.lines_laws.specs.Turns.{Turn, Turns, Unread, End, Output}
+use Rattle.lines_laws.specs.Turns.{Turn, Turns, End, Output}
 use Rattle.lines_laws.specs.Turns.Turns.{at-end, refused, goes-on}
-use Rattle.lines_laws.proofs.Turns.{turn-ranges, turn-taken, any-rest}
+use Rattle.lines_laws.proofs.Turns.{turn-ranges, turn-taken}
 use Rattle.bench_list.specs.declared.Listed.{Listed}
 use Rattle.bench_list.specs.declared.Part.{Part}
 use Rattle.bench_list.specs.declared.Went.{Went}
@@ -71,24 +71,19 @@ failed t = failed-read (t .laid) (t .written) (t .told)
 
 -- ---- turns so far
 
-bytes-then : (parts : List (List ℕ)) (part : List ℕ) → Bytes (joined parts) → Bytes part → Bytes (joined (parts ++ (part ∷ [])))
-bytes-then [] part k l = rw (append-nil part) l
-bytes-then (p ∷ parts) part k l =
-    bytes-join p (joined (parts ++ (part ∷ []))) (bytes-left p (joined parts) k) (bytes-then parts part (bytes-right p (joined parts) k) l)
-
 -- the turns that led to a state; whatever turns follow from it make one row with them
 pub record SoFar (s : Reader) : Type 0 where
   pub parts : List (List ℕ)
   pub text : List ℕ
   pub bytes : Bytes (joined parts)
   pub ranges : rangesOf s ≡ true
-  pub onward : {later : List (List ℕ)} {rest texts : List ℕ} {last : Reader} → Turns s later rest texts last
-      → Turns freshOf (parts ++ later) rest (text ++ texts) last
+  pub onward : {later : List (List ℕ)} {texts : List ℕ} {last : Reader} → Turns s later texts last
+      → Turns freshOf (parts ++ later) (text ++ texts) last
 
 pub begun : {s : Reader} → s ≡ freshOf → SoFar s
 begun e = rw e (record { parts = []; text = []; bytes = tt; ranges = fresh-ranges; onward = λ t. t })
 
-no-byte : {s : Reader} {text : List ℕ} {r : Fed} (part : List ℕ) → length part ≡ 0 → Turn s part r text → Turns s (part ∷ []) [] text (r .reader)
+no-byte : {s : Reader} {text : List ℕ} {r : Fed} (part : List ℕ) → length part ≡ 0 → Turn s part r text → Turns s (part ∷ []) text (r .reader)
 no-byte [] e t = at-end t
 no-byte (b ∷ part) e t = absurd (omega arith)
 
@@ -102,8 +97,8 @@ module _ {s : Reader} {w : Went} (f : SoFar s) (g : Succeeded s w) where
   -- ---- another follows
 
   module _ (e : w .goes ≡ true) where
-    taken : length (g .part) ≡ 0 → ⊥
-    taken z = omega (arith, ltb-true 0 (length (g .part)) (and-left _ _ (sym (g .goes) ∙ e)))
+    some : 0 < length (g .part)
+    some = ltb-true 0 (length (g .part)) (and-left _ _ (sym (g .goes) ∙ e))
 
     zero-code : g .r .code ≡ 0
     zero-code = eqb-true (g .r .code) 0 (and-right (ltb 0 (length (g .part))) _ (sym (g .goes) ∙ e))
@@ -116,19 +111,19 @@ module _ {s : Reader} {w : Went} (f : SoFar s) (g : Succeeded s w) where
           text = f .text ++ g .text;
           bytes = all-bytes;
           ranges = turn-ranges (g .turn) (g .bytes) (f .ranges);
-          onward = λ {later} {rest} {texts} {last} t.
-              rw (append-assoc (f .parts) (g .part ∷ []) later, append-assoc (f .text) (g .text) texts) (f .onward (goes-on (g .turn) zero-code t));
+          onward = λ {later} {texts} {last} t.
+              rw (append-assoc (f .parts) (g .part ∷ []) later, append-assoc (f .text) (g .text) texts) (f .onward (goes-on (g .turn) some zero-code t));
         })
 
     pub less : captureMost - consumedOf (w .reader) < captureMost - consumedOf s
     less =
         let grown = turn-taken (g .turn) (g .bytes) (f .ranges) zero-code in
-        rw (g .reader) (omega (arith, consumed-most s (f .ranges), taken))
+        rw (g .reader) (omega (arith, consumed-most s (f .ranges), some))
 
   -- ---- it is the last
 
   module _ (e : w .goes ≡ false) where
-    last-turn : Turns s (g .part ∷ []) [] (g .text) (g .r .reader)
+    last-turn : Turns s (g .part ∷ []) (g .text) (g .r .reader)
     last-turn =
         by-test (eqb (g .r .code) 0)
         (λ z. by-test (ltb 0 (length (g .part)))
@@ -139,11 +134,8 @@ module _ {s : Reader} {w : Went} (f : SoFar s) (g : Succeeded s w) where
     end-of : {r : Listed} (d : Ended (g .r .reader) r) → End (g .r .reader) (take (d .line .size) (d .page))
     end-of d = record { blank = d .blank; page = d .page; size = d .line .size; wide = d .wide; lined = d .laid .lined; written = refl }
 
-    output : (line : List ℕ) → End (g .r .reader) line → (rest : List ℕ) → Unread (g .r .reader) rest
-        → Output all rest ((f .text ++ g .text) ++ line) (g .r .reader)
-    output line end rest u =
-        let turns = any-rest (f .onward last-turn) all-bytes fresh-ranges rest u in
-        record { text = f .text ++ g .text; line = line; turns = turns; end = end; written = refl }
+    output : (line : List ℕ) → End (g .r .reader) line → Output all ((f .text ++ g .text) ++ line) (g .r .reader)
+    output line end = record { text = f .text ++ g .text; line = line; turns = f .onward last-turn; end = end; written = refl }
 
     over-ended : {r : Listed} (d : Ended (g .r .reader) r) (written : Bool) → r ≡ endedOf (g .r .reader) (finishOf (g .r .reader)) written → Lists r
     over-ended d true h =

@@ -1,24 +1,22 @@
 -- What is laid of a part, from what the calls of the listing promise; the part of a buffer that a read filled; and what an end line comes to.
 -- Assumes nothing.
-use Prim.Native.Nat.{ℕ, _≤_, min}
+use Prim.Native.Nat.{ℕ, _≤_}
 use mathlib.Core.Path.{_≡_, sym, ap, subst, _∙_}
 use mathlib.Core.Bool.{Bool, true, false}
 use mathlib.Core.List.{List}
 use native.Mathlib.Omega.{arith}
-use native.Mathlib.Nat.{min-eq-left}
-use lib.Dec.{leb}
 use lib.IntN.{ℤ, pos, negsuc}
 use lib.ListN.{length, take}
-use lib.Seq.{take-all}
 use lib.Signed.{ltZ}
-use borrow.Author.Tests.{leb-true, leb-false, ltb-true}
-use Rattle.laws.proofs.Choices.{clash, by-test}
+use borrow.Author.Tests.{ltb-true}
+use Rattle.laws.proofs.Choices.{clash}
+use Rattle.laws.proofs.Buffers.{take-min}
 use Rattle.io.specs.Counts.{clamped}
 use Rattle.capture.specs.declared.Reader.{Reader}
 use Rattle.capture.specs.declared.Fed.{Fed}
 use Rattle.capture.specs.Reader.{FedWith}
 use Rattle.capture_laws.specs.Schedule.{Bytes}
-use Rattle.lines.specs.Lines.{nextOf, fittingLinesOf, Listed as LinesLaid}
+use Rattle.lines.specs.Lines.{nextOf, fittingLinesOf, LinesLaid}
 use Rattle.lines.proofs.Layers.{inside}
 use Rattle.bench_list.specs.declared.Listed.{Listed}
 use Rattle.bench_list.specs.declared.Part.{Part}
@@ -56,14 +54,6 @@ made-part s part {r} {lent} {answers} {blank} {page} {size} fed next listed byte
     }
 
 -- ---- what a read answered
-
-take-min : (n : ℕ) (xs : List ℕ) → take (min n (length xs)) xs ≡ take n xs
-take-min n xs =
-    by-test (leb n (length xs))
-    (λ h. ap (λ (k : ℕ). take k xs) (min-eq-left (leb-true n (length xs) h)))
-    (λ h.
-    let short = leb-false n (length xs) h in
-    take-all (min n (length xs)) xs (omega arith) ∙ sym (take-all n xs (omega arith)))
 
 pub made-failed : (s : Reader) (got : ℤ) (buffer text : List ℕ) → ltZ got (pos 0) ≡ true → ReadLaid s got buffer (notReadOf s) text text
 made-failed s (pos n) buffer text h = absurd (omega (arith, ltb-true n 0 h))

@@ -1,5 +1,5 @@
--- Listing in full, from one file descriptor to another: what the call tells, and of which turns. What the system delivered at a read, and
--- what it stored at a write, is in no promise: `parts` are the bytes that the call was handed, `output` those that it handed on.
+-- Listing in full, from one file descriptor to another: what the call tells, and of which turns. That `parts` are the bytes that the call
+-- was handed, and `output` those that it handed on, is in no promise.
 -- Assumes nothing.
 use Prim.Native.Nat.{ℕ}
 use mathlib.Core.Path.{_≡_}
@@ -9,7 +9,7 @@ use Rattle.capture.specs.Reader.{finishOf}
 use Rattle.capture.specs.Whole.{wholeOf}
 use Rattle.capture_laws.specs.Schedule.{joined, Bytes}
 use Rattle.capture_laws.specs.Places.{consumedOf}
-use Rattle.lines_laws.specs.Turns.{Unread, Output}
+use Rattle.lines_laws.specs.Turns.{Output}
 use Rattle.bench_list.specs.declared.Listed.{Listed}
 
 -- ---- the result
@@ -39,14 +39,14 @@ listedOf capture =
 
 -- ---- the promise
 
--- a whole listing: parts were read, turns in order took them, what these and the end line wrote is the output, and the result tells of the
--- reader that they leave, whatever may have been left unread
+-- a whole listing: there are parts, turns in order took them, what these and the end line wrote is the output, and the result tells of the
+-- reader that they leave
 pub record Listing (r : Listed) : Type 0 where
   pub parts : List (List ℕ)
   pub output : List ℕ
   pub last : Reader
   pub bytes : Bytes (joined parts)
-  pub written : (rest : List ℕ) → Unread last rest → Output parts rest output last
+  pub written : Output parts output last
   pub told : r ≡ toldOf last (finishOf last)
 
 -- what the call promises of its result

@@ -99,7 +99,7 @@ fn wrote(part: Part, written: bool) -> Went
     }
 }
 
-// Reads once, and writes the lines of what came.
+// Reads once, and writes the lines of what came. Of a read that failed nothing is laid, and a write of nothing makes no call.
 fn turn(input: i32, output: i32, reader: Reader) -> Went
     ensures { λ w. ⌜ Turned reader w ⌝ }
 {
