@@ -76,7 +76,7 @@ pub record Output (parts : List (List ℕ)) (output : List ℕ) (last : Reader) 
 
 -- ---- that there is one
 
--- every part can be read at once: it has a byte or more
+-- every part can come of one read: a byte or more, and at most as many as are read at once
 abbrev pub Read : List (List ℕ) → Type 0
 Read [] = Unit {0}
 Read (part ∷ parts) = (0 < length part) × (length part ≤ readMost) × Read parts
