@@ -2,11 +2,11 @@
 -- Assumes nothing.
 use Prim.Native.Nat.{ℕ, _-_, _<_}
 use mathlib.Core.Path.{_≡_, refl, sym, ap, _∙_}
-use mathlib.Core.Bool.{Bool, true, false, _&&_}
-use mathlib.Core.List.{List, [], _∷_, _++_, append-assoc, append-nil}
+use mathlib.Core.Bool.{Bool, true, false}
+use mathlib.Core.List.{List, [], _∷_, _++_, append-assoc}
 use native.Mathlib.Omega.{arith}
 use lib.Dec.{ltb, eqb}
-use lib.IntN.{ℤ, pos, negsuc}
+use lib.IntN.{ℤ}
 use lib.ListN.{length, take}
 use borrow.Author.Tests.{ltb-true, ltb-false, eqb-true, eqb-false}
 use Rattle.laws.proofs.Choices.{clash, by-test, and-left, and-right}
@@ -15,20 +15,20 @@ use Rattle.capture.specs.declared.Fed.{Fed}
 use Rattle.capture.specs.Reader.{freshOf, finishOf, rangesOf}
 use Rattle.capture_laws.specs.Schedule.{joined, Bytes}
 use Rattle.capture_laws.specs.Places.{consumedOf}
-use Rattle.capture_laws.proofs.Cuts.{fresh-ranges, bytes-left, bytes-right, bytes-join}
+use Rattle.capture_laws.proofs.Cuts.{fresh-ranges, bytes-then}
 use Rattle.capture_laws.proofs.Consumed.{captureMost, consumed-most}
-use Rattle.lines_laws.specs.Turns.{Turn, Turns, Unread, End, Output}
+use Rattle.lines_laws.specs.Turns.{Turn, Turns, End, Output}
 use Rattle.lines_laws.specs.Turns.Turns.{at-end, refused, goes-on}
-use Rattle.lines_laws.proofs.Turns.{turn-ranges, turn-taken, any-rest}
+use Rattle.lines_laws.proofs.Turns.{turn-ranges, turn-taken}
 use Rattle.bench_list.specs.declared.Listed.{Listed}
+use Rattle.bench_list.specs.declared.Part.{Part}
 use Rattle.bench_list.specs.declared.Went.{Went}
-use Rattle.bench_list.specs.List.{failedOf, wroteOf, endedOf, Took, TookRead, Turned, Ended, Lists}
-use Rattle.bench_list.specs.List.Lists.{whole, not-read, not-written}
+use Rattle.bench_list.specs.List.{whole, failedOf, Lists}
+use Rattle.bench_list.specs.Loop.{moreOf, ReadLaid, wroteOf, Turned, endedOf, Ended}
+use Rattle.bench_list.specs.Loop.ReadLaid.{no-part, a-part}
+use Rattle.bench_list.specs.List.Lists.{in-full, not-read, not-written}
 
 -- ---- one turn
-
-abbrev more : List ℕ → Fed → Bool
-more part r = ltb 0 (length part) && eqb (r .code) 0
 
 -- one that did not fail
 pub record Succeeded (s : Reader) (w : Went) : Type 0 where
@@ -38,47 +38,38 @@ pub record Succeeded (s : Reader) (w : Went) : Type 0 where
   pub bytes : Bytes part
   pub turn : Turn s part r text
   pub reader : w .reader ≡ r .reader
-  pub goes : w .goes ≡ more part r
+  pub goes : w .goes ≡ moreOf part r
 
-succeeded-took : {s : Reader} {part : List ℕ} {w : Went} (t : Took s part w) (written : Bool) → w ≡ wroteOf (t .r .reader) (more part (t .r)) written
-    → w .failure ≡ 0 → Succeeded s w
-succeeded-took {part = part} t true e z =
+succeeded-read : {s : Reader} {got : ℤ} {buffer blank page : List ℕ} {p : Part} {w : Went} → ReadLaid s got buffer p blank page → (written : Bool)
+    → w ≡ wroteOf p written → w .failure ≡ whole → Succeeded s w
+succeeded-read l false e z = absurd (omega (arith, ap (λ (w : Went). w .failure) e))
+succeeded-read no-part true e z = absurd (omega (arith, ap (λ (w : Went). w .failure) e))
+succeeded-read (a-part l) true e z =
+    let told = e ∙ ap (λ (p : Part). wroteOf p true) (l .told) in
     record {
-      part = part;
-      r = t .r;
-      text = t .text;
-      bytes = t .bytes;
-      turn = t .turn;
-      reader = ap (λ (w : Went). w .reader) e;
-      goes = ap (λ (w : Went). w .goes) e;
+      part = _;
+      r = l .r;
+      text = l .text;
+      bytes = l .bytes;
+      turn = l .turn;
+      reader = ap (λ (w : Went). w .reader) told;
+      goes = ap (λ (w : Went). w .goes) told;
     }
-succeeded-took t false e z = absurd (omega (arith, ap (λ (w : Went). w .failure) e))
 
-succeeded-read : (s : Reader) {w : Went} (got : ℤ) (buffer : List ℕ) → TookRead s got buffer w → w .failure ≡ 0 → Succeeded s w
-succeeded-read s (pos n) buffer t z = succeeded-took t (t .written) (t .told) z
-succeeded-read s (negsuc n) buffer e z = absurd (omega (arith, ap (λ (w : Went). w .failure) e))
-
-pub succeeded : {s : Reader} {w : Went} → Turned s w → w .failure ≡ 0 → Succeeded s w
-succeeded {s} t = succeeded-read s (t .got) (t .buffer) (t .took)
+pub succeeded : {s : Reader} {w : Went} → Turned s w → w .failure ≡ whole → Succeeded s w
+succeeded t = succeeded-read (t .laid) (t .written) (t .told)
 
 -- and one that did
-failed-took : {w : Went} (s : Reader) (goes written : Bool) → w ≡ wroteOf s goes written → (w .failure ≡ 0 → ⊥) → Lists (failedOf (w .failure))
-failed-took s goes true e n = absurd (n (ap (λ (w : Went). w .failure) e))
-failed-took s goes false e n = rw (ap (λ (w : Went). w .failure) e) not-written
+failed-read : {s : Reader} {got : ℤ} {buffer blank page : List ℕ} {p : Part} {w : Went} → ReadLaid s got buffer p blank page → (written : Bool)
+    → w ≡ wroteOf p written → (w .failure ≡ whole → ⊥) → Lists (failedOf (w .failure))
+failed-read l false e f = rw (ap (λ (w : Went). w .failure) e) not-written
+failed-read no-part true e f = rw (ap (λ (w : Went). w .failure) e) not-read
+failed-read (a-part l) true e f = absurd (f (ap (λ (w : Went). w .failure) (e ∙ ap (λ (p : Part). wroteOf p true) (l .told))))
 
-failed-read : (s : Reader) (w : Went) (got : ℤ) (buffer : List ℕ) → TookRead s got buffer w → (w .failure ≡ 0 → ⊥) → Lists (failedOf (w .failure))
-failed-read s w (pos n) buffer t f = failed-took (t .r .reader) (more (take n buffer) (t .r)) (t .written) (t .told) f
-failed-read s w (negsuc n) buffer e f = rw (ap (λ (w : Went). w .failure) e) not-read
-
-pub failed : {s : Reader} {w : Went} → Turned s w → (w .failure ≡ 0 → ⊥) → Lists (failedOf (w .failure))
-failed {s} {w} t = failed-read s w (t .got) (t .buffer) (t .took)
+pub failed : {s : Reader} {w : Went} → Turned s w → (w .failure ≡ whole → ⊥) → Lists (failedOf (w .failure))
+failed t = failed-read (t .laid) (t .written) (t .told)
 
 -- ---- turns so far
-
-bytes-then : (parts : List (List ℕ)) (part : List ℕ) → Bytes (joined parts) → Bytes part → Bytes (joined (parts ++ (part ∷ [])))
-bytes-then [] part k l = rw (append-nil part) l
-bytes-then (p ∷ parts) part k l =
-    bytes-join p (joined (parts ++ (part ∷ []))) (bytes-left p (joined parts) k) (bytes-then parts part (bytes-right p (joined parts) k) l)
 
 -- the turns that led to a state; whatever turns follow from it make one row with them
 pub record SoFar (s : Reader) : Type 0 where
@@ -86,13 +77,13 @@ pub record SoFar (s : Reader) : Type 0 where
   pub text : List ℕ
   pub bytes : Bytes (joined parts)
   pub ranges : rangesOf s ≡ true
-  pub onward : {later : List (List ℕ)} {rest texts : List ℕ} {last : Reader} → Turns s later rest texts last
-      → Turns freshOf (parts ++ later) rest (text ++ texts) last
+  pub onward : {later : List (List ℕ)} {texts : List ℕ} {last : Reader} → Turns s later texts last
+      → Turns freshOf (parts ++ later) (text ++ texts) last
 
 pub begun : {s : Reader} → s ≡ freshOf → SoFar s
 begun e = rw e (record { parts = []; text = []; bytes = tt; ranges = fresh-ranges; onward = λ t. t })
 
-no-byte : {s : Reader} {text : List ℕ} {r : Fed} (part : List ℕ) → length part ≡ 0 → Turn s part r text → Turns s (part ∷ []) [] text (r .reader)
+no-byte : {s : Reader} {text : List ℕ} {r : Fed} (part : List ℕ) → length part ≡ 0 → Turn s part r text → Turns s (part ∷ []) text (r .reader)
 no-byte [] e t = at-end t
 no-byte (b ∷ part) e t = absurd (omega arith)
 
@@ -106,8 +97,8 @@ module _ {s : Reader} {w : Went} (f : SoFar s) (g : Succeeded s w) where
   -- ---- another follows
 
   module _ (e : w .goes ≡ true) where
-    taken : length (g .part) ≡ 0 → ⊥
-    taken z = omega (arith, ltb-true 0 (length (g .part)) (and-left _ _ (sym (g .goes) ∙ e)))
+    some : 0 < length (g .part)
+    some = ltb-true 0 (length (g .part)) (and-left _ _ (sym (g .goes) ∙ e))
 
     zero-code : g .r .code ≡ 0
     zero-code = eqb-true (g .r .code) 0 (and-right (ltb 0 (length (g .part))) _ (sym (g .goes) ∙ e))
@@ -120,19 +111,19 @@ module _ {s : Reader} {w : Went} (f : SoFar s) (g : Succeeded s w) where
           text = f .text ++ g .text;
           bytes = all-bytes;
           ranges = turn-ranges (g .turn) (g .bytes) (f .ranges);
-          onward = λ {later} {rest} {texts} {last} t.
-              rw (append-assoc (f .parts) (g .part ∷ []) later, append-assoc (f .text) (g .text) texts) (f .onward (goes-on (g .turn) zero-code t));
+          onward = λ {later} {texts} {last} t.
+              rw (append-assoc (f .parts) (g .part ∷ []) later, append-assoc (f .text) (g .text) texts) (f .onward (goes-on (g .turn) some zero-code t));
         })
 
     pub less : captureMost - consumedOf (w .reader) < captureMost - consumedOf s
     less =
         let grown = turn-taken (g .turn) (g .bytes) (f .ranges) zero-code in
-        rw (g .reader) (omega (arith, consumed-most s (f .ranges), taken))
+        rw (g .reader) (omega (arith, consumed-most s (f .ranges), some))
 
   -- ---- it is the last
 
   module _ (e : w .goes ≡ false) where
-    last-turn : Turns s (g .part ∷ []) [] (g .text) (g .r .reader)
+    last-turn : Turns s (g .part ∷ []) (g .text) (g .r .reader)
     last-turn =
         by-test (eqb (g .r .code) 0)
         (λ z. by-test (ltb 0 (length (g .part)))
@@ -140,21 +131,21 @@ module _ {s : Reader} {w : Went} (f : SoFar s) (g : Succeeded s w) where
         (λ h. let l = ltb-false 0 (length (g .part)) h in no-byte (g .part) (omega arith) (g .turn)))
         (λ z. refused (g .turn) (eqb-false (g .r .code) 0 z))
 
-    output : (line : List ℕ) → End (g .r .reader) line → (rest : List ℕ) → Unread (g .r .reader) rest
-        → Output all rest ((f .text ++ g .text) ++ line) (g .r .reader)
-    output line end rest u =
-        let turns = any-rest (f .onward last-turn) all-bytes fresh-ranges rest u in
-        record { text = f .text ++ g .text; line = line; turns = turns; end = end; written = refl }
+    end-of : {r : Listed} (d : Ended (g .r .reader) r) → End (g .r .reader) (take (d .line .size) (d .page))
+    end-of d = record { blank = d .blank; page = d .page; size = d .line .size; wide = d .wide; lined = d .laid .lined; written = refl }
+
+    output : (line : List ℕ) → End (g .r .reader) line → Output all ((f .text ++ g .text) ++ line) (g .r .reader)
+    output line end = record { text = f .text ++ g .text; line = line; turns = f .onward last-turn; end = end; written = refl }
 
     over-ended : {r : Listed} (d : Ended (g .r .reader) r) (written : Bool) → r ≡ endedOf (g .r .reader) (finishOf (g .r .reader)) written → Lists r
     over-ended d true h =
-        whole
+        in-full
         (record {
           parts = all;
-          output = (f .text ++ g .text) ++ d .line;
+          output = (f .text ++ g .text) ++ take (d .line .size) (d .page);
           last = g .r .reader;
           bytes = all-bytes;
-          written = output (d .line) (d .end);
+          written = output _ (end-of d);
           told = h;
         })
     over-ended d false h = rw h not-written

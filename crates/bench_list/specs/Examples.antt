@@ -5,7 +5,7 @@ use mathlib.Core.Path.{_≡_, refl}
 use mathlib.Core.List.{List, [], _∷_, map}
 use Rattle.capture.specs.Opened.{captureOpened}
 use Rattle.bench_list.specs.declared.Listed.{Listed}
-use Rattle.bench_list.specs.List.{listedOf}
+use Rattle.bench_list.specs.List.{whole, listedOf}
 
 pub record Worked : Type 0 where
   pub capture : List ℕ
@@ -13,7 +13,7 @@ pub record Worked : Type 0 where
 
 abbrev gives : List ℕ → ℕ → ℕ → ℕ → Worked
 gives capture consumed done code =
-    record { capture = capture; result = record { consumed = consumed; done = done; code = code; failure = 0 } }
+    record { capture = capture; result = record { consumed = consumed; done = done; code = code; failure = whole } }
 
 -- in order: nothing; no device count, no variant; part of a header; no records; a record of two, and two bytes more; both; a byte more; a
 -- kind and an operand refused, of which three bytes are consumed

@@ -1,2 +1,3 @@
 pub mod List
+pub mod Loop
 pub mod Examples

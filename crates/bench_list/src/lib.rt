@@ -3,8 +3,9 @@ use capture::Reader;
 ghost use Prim.Native.Nat.{_≤_};
 ghost use mathlib.Core.Path.{_≡_};
 ghost use lib.ListN.{length};
-ghost use Rattle.lines_laws.specs.Turns.{readMost};
-ghost use Rattle.bench_list.specs.List.{failedOf, toldOf, endedOf, wroteOf, Took, TookRead, Turned, Ended, Lists};
+ghost use Rattle.lines_laws.specs.Turns.{readMost, textRoom, endRoom};
+ghost use Rattle.bench_list.specs.List.{failedOf, toldOf, Lists};
+ghost use Rattle.bench_list.specs.Loop.{PartLaid, ReadLaid, wroteOf, Turned, endedOf, EndLaid, Ended};
 
 pub const WHOLE: u8 = 0;
 
@@ -21,6 +22,14 @@ pub struct Listed {
     pub failure: u8,
 }
 
+// What is laid of a read: the reader after it, why there is no part, whether another may follow, and how many bytes of text.
+struct Part {
+    reader: Reader,
+    failure: u8,
+    more: bool,
+    size: usize,
+}
+
 // The reader after a turn, why the turn failed, and whether another follows.
 struct Went {
     reader: Reader,
@@ -28,15 +37,58 @@ struct Went {
     goes: bool,
 }
 
-// A part whose lines could not be written is the last.
-fn wrote(reader: Reader, more: bool, written: bool) -> Went
-    ensures { λ w. ⌜ w ≡ wroteOf reader more written ⌝ }
+// The end line that is laid: how many bytes of text, and the finishing code.
+struct EndLine {
+    size: usize,
+    code: u8,
+}
+
+// Feeds a part and lays its lines. There is room for all of them: 65,536 bytes and three carried ones hold at most 16,384 records,
+// of two answer bytes and a line of at most 17 bytes each.
+fn lay_part(reader: Reader, part: &[u8], text: &mut [u8]) -> Part
+    requires { ⌜ (length (now part) ≤ readMost) × (textRoom ≤ length (now text)) ⌝ }
+    ensures { λ p. ⌜ PartLaid reader (now (part .entry)) p (now (text .entry)) (now (text .exit)) ⌝ }
 {
+    let mut answers = [0; 32768];
+    let fed = capture::feed(reader, part, &mut answers);
+    let first = std::num::wrapping_add_u32(reader.done, 1);
+    let size = lines::record_lines(&answers[..fed.written], first, text);
+    let reader = fed.reader;
+    Part {
+        reader,
+        failure: WHOLE,
+        more: (part.len() > 0) & (fed.code == 0),
+        size,
+    }
+}
+
+// Lays what a read gave: -1, or how many bytes it put to the front of the buffer.
+fn lay(reader: Reader, got: isize, buffer: &[u8], text: &mut [u8]) -> Part
+    requires { ⌜ (length (now buffer) ≤ readMost) × (textRoom ≤ length (now text)) ⌝ }
+    ensures { λ p. ⌜ ReadLaid reader got (now (buffer .entry)) p (now (text .entry)) (now (text .exit)) ⌝ }
+{
+    if got < 0 {
+        return Part {
+            reader,
+            failure: NOT_READ,
+            more: false,
+            size: 0,
+        };
+    }
+    let count = io::count(got, buffer);
+    lay_part(reader, &buffer[..count], text)
+}
+
+// A part whose lines could not be written is the last.
+fn wrote(part: Part, written: bool) -> Went
+    ensures { λ w. ⌜ w ≡ wroteOf part written ⌝ }
+{
+    let reader = part.reader;
     if written {
         Went {
             reader,
-            failure: WHOLE,
-            goes: more,
+            failure: part.failure,
+            goes: part.more,
         }
     } else {
         Went {
@@ -47,44 +99,16 @@ fn wrote(reader: Reader, more: bool, written: bool) -> Went
     }
 }
 
-// Feeds a part and writes its lines. There is room for all of them: 65,536 bytes and three carried ones hold at most 16,384 records,
-// of two answer bytes and a line of at most 17 bytes each.
-fn list_part(output: i32, reader: Reader, part: &[u8]) -> Went
-    requires { ⌜ length (now part) ≤ readMost ⌝ }
-    ensures { λ w. ⌜ Took reader (now (part .entry)) w ⌝ }
-{
-    let mut answers = [0; 32768];
-    let mut text = [0; 278528];
-    let fed = capture::feed(reader, part, &mut answers);
-    let first = std::num::wrapping_add_u32(reader.done, 1);
-    let size = lines::record_lines(&answers[..fed.written], first, &mut text);
-    let written = io::write_all(output, &text[..size]);
-    wrote(fed.reader, (part.len() > 0) & (fed.code == 0), written)
-}
-
-// Lists what a read gave: -1, or how many bytes it put to the front of the buffer.
-fn list_read(output: i32, reader: Reader, got: isize, buffer: &[u8]) -> Went
-    requires { ⌜ length (now buffer) ≤ readMost ⌝ }
-    ensures { λ w. ⌜ TookRead reader got (now (buffer .entry)) w ⌝ }
-{
-    if got < 0 {
-        return Went {
-            reader,
-            failure: NOT_READ,
-            goes: false,
-        };
-    }
-    let count = io::count(got, buffer);
-    list_part(output, reader, &buffer[..count])
-}
-
-// Reads once, and lists what came.
+// Reads once, and writes the lines of what came. Of a read that failed nothing is laid, and a write of nothing makes no call.
 fn turn(input: i32, output: i32, reader: Reader) -> Went
     ensures { λ w. ⌜ Turned reader w ⌝ }
 {
     let mut buffer = io::large_buffer();
+    let mut text = [0; 278528];
     let got = libc::read(input, &mut buffer);
-    list_read(output, reader, got, &buffer)
+    let part = lay(reader, got, &buffer, &mut text);
+    let written = io::write_all(output, &text[..part.size]);
+    wrote(part, written)
 }
 
 fn failed(failure: u8) -> Listed
@@ -120,14 +144,24 @@ fn ended(reader: Reader, code: u8, written: bool) -> Listed
     }
 }
 
-// Writes the end line.
+// Lays the end line.
+fn lay_end(reader: Reader, text: &mut [u8]) -> EndLine
+    requires { ⌜ endRoom ≤ length (now text) ⌝ }
+    ensures { λ e. ⌜ EndLaid reader e (now (text .entry)) (now (text .exit)) ⌝ }
+{
+    let code = capture::finish(reader);
+    let size = lines::end_line(reader.done, code, text);
+    EndLine { size, code }
+}
+
+// Writes the end line, of at most 17 bytes.
 fn end(output: i32, reader: Reader) -> Listed
     ensures { λ r. ⌜ Ended reader r ⌝ }
 {
-    let code = capture::finish(reader);
     let mut text = [0; 17];
-    let size = lines::end_line(reader.done, code, &mut text);
-    ended(reader, code, io::write_all(output, &text[..size]))
+    let line = lay_end(reader, &mut text);
+    let written = io::write_all(output, &text[..line.size]);
+    ended(reader, line.code, written)
 }
 
 // Reads a capture to its end or to the first refused byte, and writes its listing.

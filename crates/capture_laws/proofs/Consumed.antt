@@ -1,8 +1,8 @@
 -- Every byte that is taken stands in the state: `run-consumed`, of a run; `whole-consumed`, of a whole capture, whose end state then tells
 -- how much of it was consumed; and, `refused-next`, if it is refused, the byte behind those is the refused one.
--- `consumed-most`: a state in its ranges has not taken more than a header and all its records.
+-- `consumed-most`: a state in its ranges has taken fewer bytes than `captureMost`.
 -- Assumes nothing.
-use Prim.Native.Nat.{ℕ, _+_, _*_, _^_, _≤_, _<_}
+use Prim.Native.Nat.{ℕ, _+_, _^_, _≤_, _<_}
 use mathlib.Core.Path.{_≡_, refl, sym, _∙_}
 use mathlib.Core.Bool.{Bool, true, false, cond, _&&_}
 use mathlib.Core.List.{List, [], _∷_}
@@ -96,8 +96,9 @@ whole-consumed xs =
 
 -- ---- how many there can be
 
+-- more than any capture has
 abbrev pub captureMost : ℕ
-captureMost = 6 + 4 * 2 ^ 32
+captureMost = 2 ^ 35
 
 pub consumed-most : (s : Reader) → rangesOf s ≡ true → consumedOf s < captureMost
 consumed-most s h =

@@ -3,8 +3,8 @@
 -- that meet feed's promise are equal, buffer included.
 -- Assumes nothing.
 use Prim.Native.Nat.{ℕ, zero, suc, _≤_}
-use mathlib.Core.Path.{_≡_, ap, sym, _∙_}
-use mathlib.Core.List.{List, [], _∷_, _++_, append-nil}
+use mathlib.Core.Path.{_≡_, refl, ap, sym, _∙_}
+use mathlib.Core.List.{List, [], _∷_, _++_, append-assoc, append-nil}
 use mathlib.Core.Bool.{true}
 use lib.ListN.{length, take, drop}
 use lib.Seq.{take-append-seam}
@@ -42,6 +42,14 @@ pub bytes-drop : (n : ℕ) (xs : List ℕ) → Bytes xs → Bytes (drop n xs)
 bytes-drop zero xs k = k
 bytes-drop (suc n) [] k = tt
 bytes-drop (suc n) (b ∷ xs) k = bytes-drop n xs (k .1)
+
+-- parts joined
+pub joined-append : (ps qs : List (List ℕ)) → joined (ps ++ qs) ≡ joined ps ++ joined qs
+joined-append [] qs = refl
+joined-append (p ∷ ps) qs = ap (λ (xs : List ℕ). p ++ xs) (joined-append ps qs) ∙ sym (append-assoc p (joined ps) (joined qs))
+
+pub bytes-then : (ps : List (List ℕ)) (p : List ℕ) → Bytes (joined ps) → Bytes p → Bytes (joined (ps ++ (p ∷ [])))
+bytes-then ps p k l = rw (joined-append ps (p ∷ []), append-nil p) (bytes-join (joined ps) p k l)
 
 -- at a state in its ranges, what is seen is the call's outcome
 called : (s : Reader) (xs : List ℕ) {r : Fed} {entry exit : List ℕ} → rangesOf s ≡ true → Meets (callOf s xs (length entry)) r entry exit

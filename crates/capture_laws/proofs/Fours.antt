@@ -78,6 +78,10 @@ run-code s (b ∷ xs) =
     (λ z. rw (run-on s b xs (eqb-true _ _ z)) (run-code (turnOf s b .reader) xs))
     (λ z. rw (run-stop s b xs (eqb-false _ _ z)) refl)
 
+-- no state in its ranges holds 7: a call gives it, and keeps none
+pub held-not-7 : (s : Reader) → rangesOf s ≡ true → s .held ≡ 7 → ⊥
+held-not-7 s h e = omega (arith, leb-true (s .held) 5 (ranges s h .held))
+
 -- ---- a turn
 
 module _ (s : Reader) (xs : List ℕ) (h : rangesOf s ≡ true) where

@@ -84,5 +84,5 @@ fittingLinesOf room n (a ∷ []) = []
 fittingLinesOf room n (a ∷ b ∷ answers) =
     cond (leb (length (lineOf n a b)) room) (lineOf n a b ++ fittingLinesOf (room - length (lineOf n a b)) (nextOf n) answers) []
 
-abbrev pub Listed : ℕ → List ℕ → ℕ → List ℕ → List ℕ → Type 0
-Listed n answers count entry exit = Laid (fittingLinesOf (length entry) n answers) count entry exit
+abbrev pub LinesLaid : ℕ → List ℕ → ℕ → List ℕ → List ℕ → Type 0
+LinesLaid n answers count entry exit = Laid (fittingLinesOf (length entry) n answers) count entry exit

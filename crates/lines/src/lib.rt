@@ -1,7 +1,7 @@
 // The listing's lines, as bytes in a lent buffer.
 ghost use mathlib.Core.Path.{_≡_};
 ghost use mathlib.Core.List.{_++_};
-ghost use Rattle.lines.specs.Lines.{digitOf, hexOf, tenDigits, zerosOf, decimalOf, lineOf, endLineOf, Lined, Listed};
+ghost use Rattle.lines.specs.Lines.{digitOf, hexOf, tenDigits, zerosOf, decimalOf, lineOf, endLineOf, Lined, LinesLaid};
 
 fn digit(n: u32) -> u8
     ensures { λ r. ⌜ r ≡ digitOf n ⌝ }
@@ -90,7 +90,7 @@ pub fn record_line(n: u32, first: u8, second: u8, room: &mut [u8]) -> usize
 
 // The lines of a call's answers, numbered from `first` on: as many whole lines as there is room for; how many bytes.
 pub fn record_lines(answers: &[u8], first: u32, room: &mut [u8]) -> usize
-    ensures { λ r. ⌜ Listed first (now (answers .entry)) r (now (room .entry)) (now (room .exit)) ⌝ }
+    ensures { λ r. ⌜ LinesLaid first (now (answers .entry)) r (now (room .entry)) (now (room .exit)) ⌝ }
 {
     let mut i: usize = 0;
     let mut size: usize = 0;

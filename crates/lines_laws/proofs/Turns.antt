@@ -1,6 +1,6 @@
 -- `lists`: what the listing's turns and its end line write is the listing of the whole capture, whatever the parts it was read in and
 -- whatever it left unread; `last-whole`, `last-finishing`: the state that they leave is the whole capture's, and so is its finishing code.
--- `any-rest`: they leave it whatever is unread. `never-full`: the listing's buffers hold all that a turn gives.
+-- `never-full`: the listing's buffers hold all that a turn gives.
 -- Assumes nothing.
 use Prim.Native.Nat.{ℕ, _+_, _*_}
 use mathlib.Core.Path.{_≡_, refl, sym, ap, _∙_}
@@ -29,7 +29,7 @@ use Rattle.lines.specs.Lines.{linesOf, endLineOf}
 use Rattle.lines_laws.specs.Turns.{Turn, Turns, Unread, Output}
 use Rattle.lines_laws.specs.Turns.Turns.{at-end, refused, goes-on}
 use Rattle.lines_laws.proofs.Numbered.{laid-front, lined-front, end-short, not-round, lines-all, lines-append}
-use Rattle.capture_laws.proofs.Fours.{run-even, run-code, answers-fit, done-fits}
+use Rattle.capture_laws.proofs.Fours.{run-even, run-code, held-not-7, answers-fit, done-fits}
 use Rattle.lines_laws.specs.WholeListing.{captureListingOf}
 
 -- ---- one turn
@@ -79,10 +79,7 @@ module _ {s : Reader} {part text : List ℕ} {r : Fed} (t : Turn s part r text) 
   -- the buffers hold all that a turn gives: it never asks for more room, and leaves no line out
   pub never-full : (r .code ≡ 7 → ⊥) × (text ≡ linesOf (s .done + 1) (take (r .written) (t .answers)))
   never-full = (
-    λ e.
-        let m = fed-run in
-        let last = runOf s part .reader in
-        omega (arith, run-code s part, leb-true (last .held) 5 (ranges last (run-ranges s part k h) .held)),
+    λ e. held-not-7 (r .reader) turn-ranges (sym turn-held ∙ e),
     rw fed-answers turn-text,
   )
 
@@ -116,54 +113,50 @@ after-run xs ys {s} {middle} {last} {text} {texts} p q =
 held-rest : (s : Reader) (rest : List ℕ) → (s .held ≡ 0 → ⊥) → Lists s rest [] s
 held-rest s rest n = let e = run-held s rest n in record { text-is = rw e refl; last-is = rw e refl }
 
-turns-list : {s last : Reader} {parts : List (List ℕ)} {rest text : List ℕ} → Turns s parts rest text last → Bytes (joined parts ++ rest)
-    → rangesOf s ≡ true → Lists s (joined parts ++ rest) text last
-turns-list (at-end t) k h = one-turn t k h
-turns-list (refused {s = s} {part = part} {rest = rest} {text = text} {r = r} t n) k h =
-    let b = bytes-left part rest (rw (append-nil part) at k) in
-    let held : r .reader .held ≡ 0 → ⊥ = λ z. n (turn-held t b h ∙ z) in
-    rw (append-nil part) (rw (append-nil text) at (after-run part rest (one-turn t b h) (held-rest (r .reader) rest held)))
-turns-list (goes-on {s = s} {part = part} {rest = rest} {parts = parts} t z turns) k h =
+-- the last one, and what is unread behind it
+last-turn : {s : Reader} {part text : List ℕ} {r : Fed} → Turn s part r text → (rest : List ℕ) → Unread (r .reader) rest → Bytes (part ++ rest)
+    → rangesOf s ≡ true → Lists s (part ++ rest) text (r .reader)
+last-turn {part = part} {text = text} {r = r} t rest u k h =
+    let one = one-turn t (bytes-left part rest k) h in
+    by-test (eqb (r .reader .held) 0)
+    (λ z. rw (u (eqb-true (r .reader .held) 0 z), append-nil part) one)
+    (λ z. rw (append-nil text) at (after-run part rest one (held-rest (r .reader) rest (eqb-false (r .reader .held) 0 z))))
+
+turns-list : {s last : Reader} {parts : List (List ℕ)} {text : List ℕ} → Turns s parts text last → (rest : List ℕ) → Unread last rest
+    → Bytes (joined parts ++ rest) → rangesOf s ≡ true → Lists s (joined parts ++ rest) text last
+turns-list (at-end t) rest u k h = last-turn t rest u k h
+turns-list (refused {part = part} t n) rest u k h = rw (append-nil part) (last-turn t rest u (rw (append-nil part) at k) h)
+turns-list (goes-on {part = part} {parts = parts} t m z turns) rest u k h =
     let bytes = rw (append-assoc part (joined parts) rest) at k in
     let b = bytes-left part (joined parts ++ rest) bytes in
     let p = one-turn t b h in
-    let q = turns-list turns (bytes-right part (joined parts ++ rest) bytes) (turn-ranges t b h) in
+    let q = turns-list turns rest u (bytes-right part (joined parts ++ rest) bytes) (turn-ranges t b h) in
     rw (append-assoc part (joined parts) rest) (after-run part (joined parts ++ rest) p q)
-
--- ---- what is unread
-
--- turns are the same whatever is unread
-pub any-rest : {s last : Reader} {parts : List (List ℕ)} {rest text : List ℕ} → Turns s parts rest text last → Bytes (joined parts)
-    → rangesOf s ≡ true → (other : List ℕ) → Unread last other → Turns s parts other text last
-any-rest (at-end {r = r} t) k h other u =
-    by-test (eqb (r .code) 0)
-    (λ z. rw (u (sym (turn-held t k h) ∙ eqb-true (r .code) 0 z)) (at-end t))
-    (λ z. refused t (eqb-false (r .code) 0 z))
-any-rest (refused t n) k h other u = refused t n
-any-rest (goes-on {part = part} {parts = parts} t z turns) k h other u =
-    goes-on t z (any-rest turns (bytes-right part (joined parts) k) (turn-ranges t (bytes-left part (joined parts) k) h) other u)
 
 -- ---- the theorem
 
-module _ {parts : List (List ℕ)} {rest output : List ℕ} {last : Reader} (o : Output parts rest output last) (k : Bytes (joined parts ++ rest)) where
-  abbrev capture : List ℕ
-  capture = joined parts ++ rest
+module _
+    {parts : List (List ℕ)} {output : List ℕ} {last : Reader} (o : Output parts output last) (rest : List ℕ) (u : Unread last rest)
+    (k : Bytes (joined parts ++ rest))
+  where
+    abbrev capture : List ℕ
+    capture = joined parts ++ rest
 
-  as-run : Lists freshOf capture (o .text) last
-  as-run = turns-list (o .turns) k fresh-ranges
+    as-run : Lists freshOf capture (o .text) last
+    as-run = turns-list (o .turns) rest u k fresh-ranges
 
-  pub last-whole : last ≡ wholeOf capture .reader
-  last-whole = as-run .last-is ∙ ap (λ (w : Out). w .reader) (whole-run capture)
+    pub last-whole : last ≡ wholeOf capture .reader
+    last-whole = as-run .last-is ∙ ap (λ (w : Out). w .reader) (whole-run capture)
 
-  pub last-finishing : finishOf last ≡ wholeOf capture .finishing
-  last-finishing =
-      let in-ranges : rangesOf last ≡ true = rw (as-run .last-is) (run-ranges freshOf capture k fresh-ranges) in
-      rw in-ranges (rw last-whole (whole-finishing capture))
+    pub last-finishing : finishOf last ≡ wholeOf capture .finishing
+    last-finishing =
+        let in-ranges : rangesOf last ≡ true = rw (as-run .last-is) (run-ranges freshOf capture k fresh-ranges) in
+        rw in-ranges (rw last-whole (whole-finishing capture))
 
-  pub lists : output ≡ captureListingOf capture
-  lists =
-      let text : o .text ≡ linesOf 1 (wholeOf capture .answers) = as-run .text-is ∙ ap (λ (w : Out). linesOf 1 (w .answers)) (whole-run capture) in
-      let short = end-short (last .done) (finishOf last) in
-      let wide = o .end .wide in
-      let end = o .end .written ∙ lined-front (endLineOf (last .done) (finishOf last)) (omega arith) (o .end .lined) in
-      o .written ∙ (λ i. text i ++ (end ∙ (λ j. endLineOf (last-whole j .done) (last-finishing j))) i)
+    pub lists : output ≡ captureListingOf capture
+    lists =
+        let text : o .text ≡ linesOf 1 (wholeOf capture .answers) = as-run .text-is ∙ ap (λ (w : Out). linesOf 1 (w .answers)) (whole-run capture) in
+        let short = end-short (last .done) (finishOf last) in
+        let wide = o .end .wide in
+        let end = o .end .written ∙ lined-front (endLineOf (last .done) (finishOf last)) (omega arith) (o .end .lined) in
+        o .written ∙ (λ i. text i ++ (end ∙ (λ j. endLineOf (last-whole j .done) (last-finishing j))) i)

@@ -1,7 +1,7 @@
 -- Assumes nothing.
 use borrow.Author.Needs.{needs}
-use mir.Syntax.{w64}
-use mir.Val.{toZ, ofZ}
+use Rattle.io.proofs.Counting.{counts}
+use Rattle.bench_list.proofs.Making.{read-inside}
 use Rattle.bench_list.proofs.turn.Statement.{statement}
 use Rattle.bench_list.proofs.turn.Tie as tie
 
@@ -14,16 +14,40 @@ slice-aggregate-read c = search needs
 read-requires : tie.Need-read-requires
 read-requires c κs = search needs
 
-slice-aggregate-list-read : tie.Need-slice-aggregate-list-read
-slice-aggregate-list-read c = search needs
+slice-aggregate-lay : tie.Need-slice-aggregate-lay
+slice-aggregate-lay c = search needs
 
-list-read-requires : tie.Need-list-read-requires
-list-read-requires c κs = search needs
+slice-aggregate-lay-2 : tie.Need-slice-aggregate-lay-2
+slice-aggregate-lay-2 c = search needs
+
+lay-requires : tie.Need-lay-requires
+lay-requires c κs = (search needs, search needs)
+
+array-share-prefix-text : tie.Need-array-share-prefix-text
+array-share-prefix-text c = read-inside (c .before .lay .ensures)
+
+slice-aggregate-write-all : tie.Need-slice-aggregate-write-all
+slice-aggregate-write-all c = counts _ _ (read-inside (c .before .before .lay .ensures)) .1
+
+write-all-requires : tie.Need-write-all-requires
+write-all-requires c κs = search needs
+
+wrote-requires : tie.Need-wrote-requires
+wrote-requires c κs = search needs
 
 returns : tie.Need-returns
 returns c =
-    let read = c .before .before .before .read in
-    record { got = toZ w64 (ofZ w64 (read .result)); buffer = read .last .1 .0; took = c .list-read .ensures }
+    let laid = c .before .before .before .before .lay in
+    record {
+      got = _;
+      buffer = _;
+      part = laid .result;
+      blank = _;
+      page = _;
+      laid = laid .ensures;
+      written = c .before .write-all .result;
+      told = c .wrote .ensures;
+    }
 
 pub turn-spec : {M : Type 1} → statement M
 turn-spec =
@@ -32,6 +56,11 @@ turn-spec =
     large-buffer-requires
     slice-aggregate-read
     read-requires
-    slice-aggregate-list-read
-    list-read-requires
+    slice-aggregate-lay
+    slice-aggregate-lay-2
+    lay-requires
+    array-share-prefix-text
+    slice-aggregate-write-all
+    write-all-requires
+    wrote-requires
     returns)
