@@ -12,8 +12,6 @@ use borrow.Rule.Slice.PartMut.{putMid}
 use borrow.Author.Tests.{le-leb, lt-leb, leb-true}
 use Rattle.laws.proofs.Buffers.{copied, laid}
 use Rattle.laws.proofs.Choices.{cond-ind}
-use Rattle.capture.specs.declared.Fed.{Fed}
-use Rattle.capture.specs.Reader.{Out, Meets}
 use Rattle.lines.proofs.Decimals.{zeros-within}
 use Rattle.lines.specs.Lines.{zerosOf, tenDigits, decimalOf, fittingOf, Laid, Lined}
 
@@ -112,11 +110,8 @@ same-room {text} {entry} {exit} p h =
     omega arith
 
 -- what stands in front of a buffer is within it
-in-front : (text rest : List ℕ) {exit : List ℕ} {count : ℕ} → count ≡ length text → exit ≡ text ++ rest → count ≤ length exit
+pub in-front : (text rest : List ℕ) {exit : List ℕ} {count : ℕ} → count ≡ length text → exit ≡ text ++ rest → count ≤ length exit
 in-front text rest t e = let a = ap length e ∙ length-append text rest in omega arith
 
 pub inside : {text entry exit : List ℕ} {count : ℕ} → Laid text count entry exit → count ≤ length exit
 inside {text} {entry} p = in-front text (drop (length text) entry) (p .told) (p .buffer)
-
-pub answers-inside : {o : Out} {r : Fed} {entry exit : List ℕ} → Meets o r entry exit → r .written ≤ length exit
-answers-inside {o} {entry = entry} p = in-front (o .answers) (drop (length (o .answers)) entry) (p .written) (p .buffer)

@@ -14,11 +14,11 @@ use Rattle.capture.specs.Reader.{finishOf}
 use Rattle.capture_laws.specs.Schedule.{Bytes}
 use Rattle.lines.specs.Lines.{endLineOf, Laid, Lined}
 use Rattle.lines_laws.specs.Turns.{endRoom, Turn}
-use Rattle.bench_list.specs.declared.Listed.{Listed}
-use Rattle.bench_list.specs.declared.Part.{Part}
-use Rattle.bench_list.specs.declared.Went.{Went}
-use Rattle.bench_list.specs.declared.EndLine.{EndLine}
-use Rattle.bench_list.specs.List.{whole, notRead, notWritten, failedOf, toldOf}
+use Rattle.listing_loop.specs.declared.Listed.{Listed}
+use Rattle.listing_loop.specs.declared.Part.{Part}
+use Rattle.listing_loop.specs.declared.Went.{Went}
+use Rattle.listing_loop.specs.declared.EndLine.{EndLine}
+use Rattle.listing_loop.specs.List.{whole, notRead, notWritten, failedOf, toldOf}
 
 -- ---- a part
 

@@ -1,7 +1,7 @@
 -- Assumes nothing.
 use borrow.Author.Needs.{needs}
-use Rattle.bench_list.proofs.ended.Statement.{statement}
-use Rattle.bench_list.proofs.ended.Tie as tie
+use Rattle.listing_loop.proofs.ended.Statement.{statement}
+use Rattle.listing_loop.proofs.ended.Tie as tie
 
 told-requires : tie.Need-told-requires
 told-requires c κs = search needs

@@ -1,6 +1,6 @@
 -- Assumes nothing.
-use Rattle.bench_list.proofs.wrote.Statement.{statement}
-use Rattle.bench_list.proofs.wrote.Tie as tie
+use Rattle.listing_loop.proofs.wrote.Statement.{statement}
+use Rattle.listing_loop.proofs.wrote.Tie as tie
 
 returns : tie.Need-returns
 returns c = rw (c .if1 .taken)

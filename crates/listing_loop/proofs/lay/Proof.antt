@@ -1,9 +1,9 @@
 -- Assumes nothing.
 use borrow.Author.Needs.{needs}
 use mir.Facts.{toZ-ofZ}
-use Rattle.bench_list.proofs.Making.{made-failed, made-read}
-use Rattle.bench_list.proofs.lay.Statement.{statement}
-use Rattle.bench_list.proofs.lay.Tie as tie
+use Rattle.listing_loop.proofs.Making.{made-failed, made-read}
+use Rattle.listing_loop.proofs.lay.Statement.{statement}
+use Rattle.listing_loop.proofs.lay.Tie as tie
 
 returns : tie.Need-returns
 returns c =

@@ -4,8 +4,8 @@ use Prim.Native.Nat.{ℕ}
 use mathlib.Core.Path.{_≡_, refl}
 use mathlib.Core.List.{List, [], _∷_, map}
 use Rattle.capture.specs.Opened.{captureOpened}
-use Rattle.bench_list.specs.declared.Listed.{Listed}
-use Rattle.bench_list.specs.List.{whole, listedOf}
+use Rattle.listing_loop.specs.declared.Listed.{Listed}
+use Rattle.listing_loop.specs.List.{whole, listedOf}
 
 pub record Worked : Type 0 where
   pub capture : List ℕ

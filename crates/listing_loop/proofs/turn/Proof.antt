@@ -1,9 +1,9 @@
 -- Assumes nothing.
 use borrow.Author.Needs.{needs}
 use Rattle.io.proofs.Counting.{counts}
-use Rattle.bench_list.proofs.Making.{read-inside}
-use Rattle.bench_list.proofs.turn.Statement.{statement}
-use Rattle.bench_list.proofs.turn.Tie as tie
+use Rattle.listing_loop.proofs.Making.{read-inside}
+use Rattle.listing_loop.proofs.turn.Statement.{statement}
+use Rattle.listing_loop.proofs.turn.Tie as tie
 
 large-buffer-requires : tie.Need-large-buffer-requires
 large-buffer-requires c κs = search needs

@@ -2,9 +2,9 @@
 use borrow.Author.Needs.{needs}
 use Rattle.io.proofs.Counting.{counts}
 use Rattle.lines.proofs.Layers.{inside}
-use Rattle.bench_list.proofs.Making.{made-end}
-use Rattle.bench_list.proofs.end.Statement.{statement}
-use Rattle.bench_list.proofs.end.Tie as tie
+use Rattle.listing_loop.proofs.Making.{made-end}
+use Rattle.listing_loop.proofs.end.Statement.{statement}
+use Rattle.listing_loop.proofs.end.Tie as tie
 
 slice-aggregate-lay-end : tie.Need-slice-aggregate-lay-end
 slice-aggregate-lay-end c = search needs

@@ -20,13 +20,13 @@ use Rattle.capture_laws.proofs.Consumed.{captureMost, consumed-most}
 use Rattle.lines_laws.specs.Turns.{Turn, Turns, End, Output}
 use Rattle.lines_laws.specs.Turns.Turns.{at-end, refused, goes-on}
 use Rattle.lines_laws.proofs.Turns.{turn-ranges, turn-taken}
-use Rattle.bench_list.specs.declared.Listed.{Listed}
-use Rattle.bench_list.specs.declared.Part.{Part}
-use Rattle.bench_list.specs.declared.Went.{Went}
-use Rattle.bench_list.specs.List.{whole, failedOf, Lists}
-use Rattle.bench_list.specs.Loop.{moreOf, ReadLaid, wroteOf, Turned, endedOf, Ended}
-use Rattle.bench_list.specs.Loop.ReadLaid.{no-part, a-part}
-use Rattle.bench_list.specs.List.Lists.{in-full, not-read, not-written}
+use Rattle.listing_loop.specs.declared.Listed.{Listed}
+use Rattle.listing_loop.specs.declared.Part.{Part}
+use Rattle.listing_loop.specs.declared.Went.{Went}
+use Rattle.listing_loop.specs.List.{whole, failedOf, Lists}
+use Rattle.listing_loop.specs.Loop.{moreOf, ReadLaid, wroteOf, Turned, endedOf, Ended}
+use Rattle.listing_loop.specs.Loop.ReadLaid.{no-part, a-part}
+use Rattle.listing_loop.specs.List.Lists.{in-full, not-read, not-written}
 
 -- ---- one turn
 

@@ -19,9 +19,9 @@ use Rattle.lines_laws.specs.WholeListing.{captureListingOf}
 use Rattle.lines_laws.specs.Turns.{answerRoom, textRoom, endRoom, Unread, Output, Read, Ends}
 use Rattle.lines_laws.proofs.Turns.{last-whole, last-finishing, lists}
 use Rattle.lines_laws.proofs.Endings.{turns-end}
-use Rattle.bench_list.specs.declared.Listed.{Listed}
-use Rattle.bench_list.specs.List.{whole, toldOf, listedOf, Listing, Lists}
-use Rattle.bench_list.specs.List.Lists.{in-full, not-read, not-written}
+use Rattle.listing_loop.specs.declared.Listed.{Listed}
+use Rattle.listing_loop.specs.List.{whole, toldOf, listedOf, Listing, Lists}
+use Rattle.listing_loop.specs.List.Lists.{in-full, not-read, not-written}
 
 -- ---- one listing
 

@@ -4,10 +4,9 @@ use Prim.Native.Nat.{ℕ}
 use mathlib.Core.List.{List}
 use Rattle.capture_laws.proofs.Counts.{bytes-of}
 use Rattle.io.proofs.Counting.{counts}
-use Rattle.lines.proofs.Layers.{answers-inside}
-use Rattle.bench_list.proofs.Making.{made-part}
-use Rattle.bench_list.proofs.lay_part.Statement.{statement}
-use Rattle.bench_list.proofs.lay_part.Tie as tie
+use Rattle.listing_loop.proofs.Making.{answers-inside, made-part}
+use Rattle.listing_loop.proofs.lay_part.Statement.{statement}
+use Rattle.listing_loop.proofs.lay_part.Tie as tie
 
 slice-aggregate-feed : tie.Need-slice-aggregate-feed
 slice-aggregate-feed c = search needs

@@ -4,9 +4,9 @@ use borrow.Author.Needs.{needs}
 use borrow.Author.Tests.{not-true, not-false}
 use Rattle.capture_laws.specs.Places.{consumedOf}
 use Rattle.capture_laws.proofs.Consumed.{captureMost}
-use Rattle.bench_list.proofs.Loop.{SoFar, succeeded, failed, begun, further, less, over}
-use Rattle.bench_list.proofs.lm89_list.Statement.{statement}
-use Rattle.bench_list.proofs.lm89_list.Tie as tie
+use Rattle.listing_loop.proofs.Loop.{SoFar, succeeded, failed, begun, further, less, over}
+use Rattle.listing_loop.proofs.list.Statement.{statement}
+use Rattle.listing_loop.proofs.list.Tie as tie
 
 abbrev Inv-loop : tie.InvT-loop
 Inv-loop input output reader₀ reader = SoFar reader
@@ -50,8 +50,8 @@ loop-again c =
     let done = succeeded (turned .turn .ensures) (c .before .before .before .if1 .left) in
     further (turned .before .loop .inv) done (not-false _ (c .if2 .left))
 
-pub lm89-list-spec : {M : Type 1} → statement M
-lm89-list-spec =
+pub list-spec : {M : Type 1} → statement M
+list-spec =
     tie.close
     (tie.spec
     Inv-loop

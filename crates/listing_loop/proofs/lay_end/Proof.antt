@@ -1,7 +1,7 @@
 -- Assumes nothing.
 use borrow.Author.Needs.{needs}
-use Rattle.bench_list.proofs.lay_end.Statement.{statement}
-use Rattle.bench_list.proofs.lay_end.Tie as tie
+use Rattle.listing_loop.proofs.lay_end.Statement.{statement}
+use Rattle.listing_loop.proofs.lay_end.Tie as tie
 
 finish-requires : tie.Need-finish-requires
 finish-requires c κs = search needs

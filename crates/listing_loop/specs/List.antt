@@ -10,7 +10,7 @@ use Rattle.capture.specs.Whole.{wholeOf}
 use Rattle.capture_laws.specs.Schedule.{joined, Bytes}
 use Rattle.capture_laws.specs.Places.{consumedOf}
 use Rattle.lines_laws.specs.Turns.{Output}
-use Rattle.bench_list.specs.declared.Listed.{Listed}
+use Rattle.listing_loop.specs.declared.Listed.{Listed}
 
 -- ---- the result
 

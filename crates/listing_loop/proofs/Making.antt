@@ -6,7 +6,7 @@ use mathlib.Core.Bool.{Bool, true, false}
 use mathlib.Core.List.{List}
 use native.Mathlib.Omega.{arith}
 use lib.IntN.{ℤ, pos, negsuc}
-use lib.ListN.{length, take}
+use lib.ListN.{length, take, drop}
 use lib.Signed.{ltZ}
 use borrow.Author.Tests.{ltb-true}
 use Rattle.laws.proofs.Choices.{clash}
@@ -14,17 +14,21 @@ use Rattle.laws.proofs.Buffers.{take-min}
 use Rattle.io.specs.Counts.{clamped}
 use Rattle.capture.specs.declared.Reader.{Reader}
 use Rattle.capture.specs.declared.Fed.{Fed}
-use Rattle.capture.specs.Reader.{FedWith}
+use Rattle.capture.specs.Reader.{Out, Meets, FedWith}
 use Rattle.capture_laws.specs.Schedule.{Bytes}
 use Rattle.lines.specs.Lines.{nextOf, fittingLinesOf, LinesLaid}
-use Rattle.lines.proofs.Layers.{inside}
-use Rattle.bench_list.specs.declared.Listed.{Listed}
-use Rattle.bench_list.specs.declared.Part.{Part}
-use Rattle.bench_list.specs.declared.EndLine.{EndLine}
-use Rattle.bench_list.specs.Loop.{partOf, notReadOf, PartLaid, ReadLaid, endedOf, EndLaid, Ended}
-use Rattle.bench_list.specs.Loop.ReadLaid.{no-part, a-part}
+use Rattle.lines.proofs.Layers.{inside, in-front}
+use Rattle.listing_loop.specs.declared.Listed.{Listed}
+use Rattle.listing_loop.specs.declared.Part.{Part}
+use Rattle.listing_loop.specs.declared.EndLine.{EndLine}
+use Rattle.listing_loop.specs.Loop.{partOf, notReadOf, PartLaid, ReadLaid, endedOf, EndLaid, Ended}
+use Rattle.listing_loop.specs.Loop.ReadLaid.{no-part, a-part}
 use Rattle.lines_laws.specs.Turns.{readMost, answerRoom, textRoom, endRoom}
 use Rattle.lines_laws.proofs.Numbered.{laid-front}
+
+-- a call's answers are within the buffer
+pub answers-inside : {o : Out} {r : Fed} {entry exit : List ℕ} → Meets o r entry exit → r .written ≤ length exit
+answers-inside {o} {entry = entry} p = in-front (o .answers) (drop (length (o .answers)) entry) (p .written) (p .buffer)
 
 pub made-part : (s : Reader) (part : List ℕ) {r : Fed} {lent answers blank page : List ℕ} {size first : ℕ} → FedWith s part r lent answers
     → first ≡ nextOf (s .done) → LinesLaid first (take (r .written) answers) size blank page → Bytes part
