@@ -6,8 +6,6 @@ set -euo pipefail
 cd "$(dirname "$0")/.."
 source scripts/machine.sh
 once_a_call='bench_feed.o capture::ranges::in_range'
-nm=nm
-command -v llvm-nm >/dev/null && nm=llvm-nm
 symbols=$("$nm" -A -S "$library") || {
     printf 'inlined: %s cannot read %s: install llvm or binutils\n' "$nm" "$library" >&2
     exit 1

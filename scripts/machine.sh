@@ -7,6 +7,9 @@ machine=$(uname -m)
 kit=$(dirname "$(dirname "$(realpath "$(command -v rt)")")")
 toolchain=$kit/on/$machine/toolchain
 emulator=("$toolchain/bin/qemu-x86_64" "$toolchain/lib/ld-linux-x86-64.so.2" --library-path "$toolchain/lib")
+# One that reads x86-64 archives on any machine, if it is there.
+nm=nm
+! command -v llvm-nm >/dev/null || nm=llvm-nm
 library=build/lib/liblm89.a
 listing_library=build/lib/liblm89_list.a
 flags=(-std=c11 -O2 -Wall -Wextra -pedantic -Iinclude)

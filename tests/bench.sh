@@ -84,8 +84,8 @@ program_says() {
 }
 
 scripts/build.sh
-needed=$(nm -u "$library" | grep ' U ' || true)
-[ -z "$needed" ] || stop "$library needs another library: $needed"
+undefined=$("$nm" -u "$library") || stop "$nm cannot read $library: install llvm or binutils"
+! grep ' U ' <<<"$undefined" || stop "$library needs another library for the symbols above"
 rt check listing >build/listing.log 2>&1 || {
     cat build/listing.log
     stop "the program listing is not proved, see above"
