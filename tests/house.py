@@ -3,13 +3,15 @@
 
 - a `use` line brings in nothing that its file does not name;
 - a public function has an `ensures` and no `requires` (`pub(crate)` is private);
-- a function has at most 40 lines.
+- a function has at most 40 lines;
+- a line of a crate or of a document has at most 200 characters, though 160 are asked for.
 """
 import pathlib
 import re
 import sys
 
 ROOT = pathlib.Path(__file__).resolve().parent.parent
+LINE_MOST = 200
 # a line on which a function's body begins
 OPENS = re.compile(r"^\{\s*$|\) \{\s*$|-> \S.* \{$")
 WORD = re.compile(r"[^\s(){}\[\],;.]+")
@@ -70,8 +72,16 @@ def promises(path):
                 yield f"{where} is public and has a requires"
 
 
+def long_lines(path):
+    for number, line in enumerate(path.read_text().split("\n"), 1):
+        if len(line) > LINE_MOST:
+            yield f"{path.relative_to(ROOT)}:{number}: {len(line)} characters"
+
+
 def main():
     faults = []
+    for path in sorted([*ROOT.glob("*.md"), *ROOT.glob("docs/**/*.md"), *ROOT.glob("crates/**/*.antt"), *ROOT.glob("crates/**/*.rt")]):
+        faults += long_lines(path)
     for path in sorted((ROOT / "crates").rglob("*.antt")):
         faults += unused(path)
     for path in sorted((ROOT / "crates").rglob("*.rt")):
