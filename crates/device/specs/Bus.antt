@@ -1,5 +1,6 @@
--- The bus, conversions and power-on, by rulings P5, P6 and P9 to P12: what a device does at a write, a read, a send, an alert response,
--- a conversion and power-on. Settings are named by the numbers at which their registers are read.
+-- The bus, conversions and power-on, by rulings P5, P6 and P9 to P12 and request a, which takes the place of P12's sentence on register
+-- 10: what a device does at a write, a read, a send, an alert response, a conversion and power-on. Settings are named by the numbers at
+-- which their registers are read.
 -- Assumes nothing.
 use Prim.Native.Nat.{ℕ, _+_, _*_}
 use mathlib.Core.Bool.{Bool, true, false, not, _||_, _&&_, cond}
@@ -28,10 +29,20 @@ answeredOf d byte = record { device = d; acknowledged = true; taken = false; byt
 
 -- ---- how a device changes
 
--- the same device with this pointer, pending one-shot and settings; P8: no bus event moves what conversions have sensed
+-- the same device with this pointer, pending one-shot and settings; P8: no bus event moves what conversions have sensed; request a: no
+-- write, send or alert response keeps a low byte or lets one go
 abbrev pub setUpOf : Device → ℕ → Bool → List ℕ → Device
 setUpOf d pointer pending settings =
-    record { variant = d .variant; pointer = pointer; pending = pending; status = d .status; sensed = d .sensed; settings = settings }
+    record {
+      variant = d .variant;
+      pointer = pointer;
+      pending = pending;
+      status = d .status;
+      low = d .low;
+      lowkept = d .lowkept;
+      sensed = d .sensed;
+      settings = settings;
+    }
 
 abbrev pub standbyOf : List ℕ → Bool
 standbyOf settings = has (settingOf settings 0x03) standby
@@ -68,30 +79,65 @@ putOf d w v = cond (writableOf w) (answeredOf (writtenOf d w v) 0) (silentOf d)
 
 -- ---- read byte
 
+-- the same device with this status and with this low byte kept, or none
+abbrev pub readOutOf : Device → ℕ → ℕ → Bool → Device
+readOutOf d status low lowkept =
+    record {
+      variant = d .variant;
+      pointer = d .pointer;
+      pending = d .pending;
+      status = status;
+      low = low;
+      lowkept = lowkept;
+      sensed = d .sensed;
+      settings = d .settings;
+    }
+
 -- status cleared
 abbrev pub statusClearedOf : Device → Device
-statusClearedOf d = record { variant = d .variant; pointer = d .pointer; pending = d .pending; status = 0; sensed = d .sensed; settings = d .settings }
+statusClearedOf d = readOutOf d 0 (d .low) (d .lowkept)
 
 -- P6: a read of 02 clears status, whatever is still live; if BF D0 is 0 and a bit of 7Bh was set, the mask bit becomes 1
 unfoldable pub statusReadOf : Device → Device
 statusReadOf d = cond (not (comparatorOf d) && has (d .status) alerting) (maskedOf (statusClearedOf d)) (statusClearedOf d)
 
--- the registers that no write sets: 00 local, 01 and 10 the two bytes of the latest remote reading (P12: 004's lock of the low byte
--- is not modelled), 02 status, FE and FF
+-- the low byte of the latest remote reading
+abbrev pub latestLowOf : Device → ℕ
+latestLowOf d = lowByteOf (d .sensed .remote)
+
+-- a: a read of 01 keeps that moment's low byte, whatever was kept before it
+unfoldable pub lowKeptOf : Device → Device
+lowKeptOf d = readOutOf d (d .status) (latestLowOf d) true
+
+-- a: a read of 10 lets go
+unfoldable pub lowLetGoOf : Device → Device
+lowLetGoOf d = readOutOf d (d .status) 0 false
+
+-- a: register 10 reads the kept low byte; with nothing kept, the latest
+unfoldable pub lowReadOf : Device → ℕ
+lowReadOf d = cond (d .lowkept) (d .low) (latestLowOf d)
+
+-- the registers that no write sets: 00 local, 01 the high byte of the latest remote reading, 02 status, 10 its low byte or the kept one, FE
+-- and FF
 unfoldable pub readOnlyValueOf : Device → ℕ → ℕ
 readOnlyValueOf d r =
     cond (eqb r 0x00) (d .sensed .local)
     (cond (eqb r 0x01) (highByteOf (d .sensed .remote))
     (cond (eqb r 0x02) (d .status)
-    (cond (eqb r 0x10) (lowByteOf (d .sensed .remote))
+    (cond (eqb r 0x10) (lowReadOf d)
     (readOnlyOf (d .variant) r))))
 
 -- the byte of a register: its setting if it is settable
 unfoldable pub valueOf : Device → ℕ → ℕ
 valueOf d r = cond (settableOf r) (settingOf (d .settings) r) (readOnlyValueOf d r)
 
-abbrev pub afterReadOf : Device → ℕ → Device
-afterReadOf d r = cond (eqb r 0x02) (statusReadOf d) d
+-- what a read of a register leaves
+unfoldable pub afterReadOf : Device → ℕ → Device
+afterReadOf d r =
+    cond (eqb r 0x01) (lowKeptOf d)
+    (cond (eqb r 0x02) (statusReadOf d)
+    (cond (eqb r 0x10) (lowLetGoOf d)
+    d))
 
 -- P10: a register outside R is not acknowledged
 unfoldable pub getOf : Device → ℕ → Outcome
@@ -122,10 +168,19 @@ respondOf d = cond (respondsOf d) (answeredOf (maskedOf d) (addressOf (d .varian
 unfoldable pub takesOf : Device → Bool
 takesOf d = not (standbyOf (d .settings)) || d .pending
 
--- P5: status gathers the live bits; P11: taking it clears a pending one-shot
+-- P5: status gathers the live bits; P11: taking it clears a pending one-shot; a: a kept low byte stays that of its own reading
 abbrev pub gatheredOf : Device → Sensed → Device
 gatheredOf d n =
-    record { variant = d .variant; pointer = d .pointer; pending = false; status = bitOr (d .status) (n .live); sensed = n; settings = d .settings }
+    record {
+      variant = d .variant;
+      pointer = d .pointer;
+      pending = false;
+      status = bitOr (d .status) (n .live);
+      low = d .low;
+      lowkept = d .lowkept;
+      sensed = n;
+      settings = d .settings;
+    }
 
 unfoldable pub convertedOf : Device → ℕ → ℤ → Bool → Device
 convertedOf d local remote diodeOpen = gatheredOf d (sensedOf (d .settings) (d .sensed) local remote diodeOpen)
@@ -145,11 +200,13 @@ zeroDevice =
       pointer = 0;
       pending = false;
       status = 0;
+      low = 0;
+      lowkept = false;
       sensed = record { local = 0; remote = pos 0; live = 0; faults = 0; llatch = false; rlatch = false };
       settings = 0 ∷ 0 ∷ 0 ∷ 0 ∷ 0 ∷ 0 ∷ 0 ∷ 0 ∷ 0 ∷ 0 ∷ 0 ∷ 0 ∷ 0 ∷ 0 ∷ [];
     }
 
--- the page's bytes, the pointer at 00 (P10), nothing pending, live, counted or latched
+-- the page's bytes, the pointer at 00 (P10), no low byte kept (a), nothing pending, live, counted or latched
 unfoldable pub poweredOf : ℕ → Device
 poweredOf variant =
     record {
@@ -157,6 +214,8 @@ poweredOf variant =
       pointer = 0x00;
       pending = false;
       status = readOnlyOf variant 0x02;
+      low = 0;
+      lowkept = false;
       sensed = record {
         local = readOnlyOf variant 0x00;
         remote = eighthsOf (readOnlyOf variant 0x01) (readOnlyOf variant 0x10);

@@ -46,6 +46,9 @@ rangeTests d =
     masksOf (d .settings) ∷
     -- one-shot pending only in standby
     (not (d .pending) || standbyOf (d .settings)) ∷
+    -- request a: the kept byte a multiple of 32, and 0 where none is kept
+    eqb (d .low % 32) 0 ∷
+    (d .lowkept || eqb (d .low) 0) ∷
     []
 
 unfoldable pub rangedOf : Device → Bool

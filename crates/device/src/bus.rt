@@ -1,8 +1,9 @@
-// P6 and P9 to P12: the bus, conversions and power-on.
+// P6, P9 to P12 and request a: the bus, conversions and power-on.
 ghost use mathlib.Core.Path.{_≡_};
 ghost use Rattle.registers.specs.Page.{writePositionOf};
 ghost use Rattle.registers.specs.declared.Position.the-variants.{At};
 ghost use Rattle.device.specs.Bus.{silentOf, answeredOf, pointedOf, maskedOf, storedOf, firedOf, putOf, statusReadOf};
+ghost use Rattle.device.specs.Bus.{lowKeptOf, lowLetGoOf, lowReadOf, afterReadOf};
 ghost use Rattle.device.specs.Bus.{readOnlyValueOf, valueOf, getOf, pointOf, respondsOf, respondOf, takesOf, convertedOf, senseOf, poweredOf};
 ghost use Rattle.device.specs.Asking.{askedAt, askedOf};
 use super::Asked;
@@ -102,6 +103,47 @@ fn status_read(d: Device) -> Device
     }
 }
 
+// The low byte at a read of 10: the kept one, or that of the latest reading.
+fn low_read(d: Device) -> u8
+    ensures { λ r. ⌜ r ≡ lowReadOf d ⌝ }
+{
+    let s = d.sensed;
+    if d.lowkept { d.low } else { temperature::low_byte(s.remote) }
+}
+
+// A read of 01 keeps the low byte of its moment.
+fn low_kept(d: Device) -> Device
+    ensures { λ r. ⌜ r ≡ lowKeptOf d ⌝ }
+{
+    let s = d.sensed;
+    let mut n = d;
+    n.low = temperature::low_byte(s.remote);
+    n.lowkept = true;
+    n
+}
+
+// A read of 10 lets go.
+fn low_let_go(d: Device) -> Device
+    ensures { λ r. ⌜ r ≡ lowLetGoOf d ⌝ }
+{
+    let mut n = d;
+    n.low = 0;
+    n.lowkept = false;
+    n
+}
+
+// What a read of the register leaves.
+fn after_read(d: Device, reg: u8) -> Device
+    ensures { λ r. ⌜ r ≡ afterReadOf d reg ⌝ }
+{
+    match reg {
+        0x01 => low_kept(d),
+        0x02 => status_read(d),
+        0x10 => low_let_go(d),
+        _ => d,
+    }
+}
+
 fn read_only_value(d: Device, reg: u8) -> u8
     ensures { λ r. ⌜ r ≡ readOnlyValueOf d reg ⌝ }
 {
@@ -110,7 +152,7 @@ fn read_only_value(d: Device, reg: u8) -> u8
         0x00 => s.local,
         0x01 => temperature::high_byte(s.remote),
         0x02 => d.status,
-        0x10 => temperature::low_byte(s.remote),
+        0x10 => low_read(d),
         _ => registers::read_only(d.variant, reg),
     }
 }
@@ -132,12 +174,7 @@ pub(crate) fn get(d: Device, reg: u8) -> Outcome
     if !registers::readable(reg) {
         return silent(d);
     }
-    let byte = value(d, reg);
-    let n = pointed(d, reg);
-    if reg == registers::STATUS {
-        return answered(status_read(n), byte);
-    }
-    answered(n, byte)
+    answered(after_read(pointed(d, reg), reg), value(d, reg))
 }
 
 // Send byte.
@@ -220,6 +257,8 @@ pub fn powered(variant: u8) -> Device
         pointer: 0,
         pending: false,
         status: 0,
+        low: 0,
+        lowkept: false,
         sensed,
         settings: registers::power_on(variant),
     }

@@ -8,7 +8,7 @@ pub mod bus;
 pub mod outputs;
 pub mod ranges;
 
-// The fourteen settings stand in rising order of their write addresses.
+// The low byte kept at a read of 01, and whether one is; the fourteen settings in rising order of their write addresses.
 #[repr(C)]
 pub struct Device {
     pub sensed: Sensed,
@@ -16,6 +16,8 @@ pub struct Device {
     pub pointer: u8,
     pub pending: bool,
     pub status: u8,
+    pub low: u8,
+    pub lowkept: bool,
     pub settings: [u8; 14],
 }
 

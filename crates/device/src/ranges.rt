@@ -68,6 +68,8 @@ pub fn ranged(d: Device) -> bool
             s.live < bits::BUSY,
             masks(settings),
             !d.pending | (settings[registers::CONFIGURATION] & bits::STANDBY != 0),
+            d.low % 32 == 0,
+            d.lowkept | (d.low == 0),
         ],
     )
 }
