@@ -15,6 +15,8 @@
  *   B  four bytes                       decode: code, kind, three operands
  *   C  length 4, room 4, bytes          run: result 8, the room
  *
+ * A dump has the fields in the order of second.h, so the device's dump is the
+ * last part of its reader's; a bool is 0 or 1, and loaded as true if not 0.
  * The four bytes of S, W and B are a record's, and may be any bytes.  Status 1
  * with a message on an unknown command, a capture or room above 1,000,000 in C,
  * or a stream cut inside a call. */
@@ -25,8 +27,8 @@
 #include <string.h>
 
 enum {
-    DEVICE_DUMP = 25,
-    READER_DUMP = 39,
+    DEVICE_DUMP = 27,
+    READER_DUMP = 41,
     CAPTURE_MOST = 1000000,
     FILL = 0xA5
 };
@@ -114,6 +116,8 @@ static void load_device(second_device *device, const uint8_t *dump)
     device->local_latch = dump[9] != 0;
     device->remote_latch = dump[10] != 0;
     memcpy(device->settings, dump + 11, SECOND_SETTINGS);
+    device->low = dump[25];
+    device->lowkept = dump[26] != 0;
 }
 
 static void put_device(const second_device *device)
@@ -132,6 +136,8 @@ static void put_device(const second_device *device)
     dump[9] = device->local_latch;
     dump[10] = device->remote_latch;
     memcpy(dump + 11, device->settings, SECOND_SETTINGS);
+    dump[25] = device->low;
+    dump[26] = device->lowkept;
     put(dump, sizeof dump);
 }
 

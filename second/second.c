@@ -1,5 +1,6 @@
 /* The core of the second implementation; see second.h and NOTES.md.
- * P1 to P12 are the rulings of document 01. */
+ * P1 to P12 are the rulings of document 01; a is document 02's request, in the
+ * place of P12's first sentence. */
 #include "second.h"
 
 #include <string.h>
@@ -151,7 +152,8 @@ enum {
     REMOTE_LEAST = -1024,
     REMOTE_MOST = 1023,
     REMOTE_OPEN = 1016,
-    FAULTS_MOST = 3
+    FAULTS_MOST = 3,
+    LOW_BYTE_UNUSED = 0x1F /* a remote low byte is a multiple of 32 */
 };
 
 static bool variant_known(uint8_t variant)
@@ -215,6 +217,10 @@ static bool rest_in_range(const second_device *device)
     if (device->pending &&
         (device->settings[SET_CONFIGURATION] & STANDBY) == 0)
         return false;
+    if ((device->low & LOW_BYTE_UNUSED) != 0)
+        return false;
+    if (!device->lowkept && device->low != 0)
+        return false;
     return true;
 }
 
@@ -251,6 +257,23 @@ static uint8_t read_status(second_device *device)
     return status;
 }
 
+/* a: a read of 01 keeps the low byte of the same reading. */
+static uint8_t read_remote_high(second_device *device)
+{
+    device->low = low_byte(device->remote);
+    device->lowkept = true;
+    return high_byte(device->remote);
+}
+
+/* a: a read of 10 returns the byte kept and lets go; if none is, the latest. */
+static uint8_t read_remote_low(second_device *device)
+{
+    uint8_t low = device->lowkept ? device->low : low_byte(device->remote);
+    device->low = 0;
+    device->lowkept = false;
+    return low;
+}
+
 /* Read a register: false if it is not in R. */
 static bool read_register(second_device *device, uint8_t address, uint8_t *value)
 {
@@ -262,10 +285,10 @@ static bool read_register(second_device *device, uint8_t address, uint8_t *value
         *value = device->local;
         return true;
     case ROLE_REMOTE_HIGH:
-        *value = high_byte(device->remote);
+        *value = read_remote_high(device);
         return true;
     case ROLE_REMOTE_LOW:
-        *value = low_byte(device->remote); /* P12 */
+        *value = read_remote_low(device);
         return true;
     case ROLE_STATUS:
         *value = read_status(device);
@@ -443,7 +466,7 @@ static const uint8_t must_be_zero[SECOND_POWER_ON + 1][3] = {
     [SECOND_READ] = { 0x80, 0x00, 0xFF },
     [SECOND_SEND] = { 0x80, 0x00, 0xFF },
     [SECOND_RECEIVE] = { 0x80, 0xFF, 0xFF },
-    [SECOND_CONVERSION] = { 0x00, 0x00, 0x1F },
+    [SECOND_CONVERSION] = { 0x00, 0x00, LOW_BYTE_UNUSED },
     [SECOND_CONVERSION_OPEN] = { 0x00, 0xFF, 0xFF },
     [SECOND_POWER_ON] = { 0xFF, 0xFF, 0xFF }
 };

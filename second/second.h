@@ -1,6 +1,7 @@
-/* Second implementation of document 01 (01-scope.md), written from its words,
- * the two datasheets and the comments of lm89.h alone.  The core: no allocation,
- * no changing globals, every function total. */
+/* Second implementation of documents 01 (01-scope.md) and 02 (request a of
+ * 02-change-requests.md, as REQUESTS.md reads it), written from their words, the
+ * two datasheets and the comments of lm89.h alone.  The core: no allocation, no
+ * changing globals, every function total. */
 #ifndef SECOND_H
 #define SECOND_H
 
@@ -52,6 +53,8 @@ typedef struct second_device {
     bool remote_latch;
     uint8_t settings[SECOND_SETTINGS]; /* by rising write address:
         09 0A 0B 0C 0D 0E 11 12 13 14 19 20 21 BF */
+    uint8_t low;         /* request a: kept at a read of 01; 0 if none is kept */
+    bool lowkept;        /* request a: a low byte is kept */
 } second_device;
 
 typedef struct second_reader {
@@ -96,7 +99,8 @@ typedef struct second_feed_result {
 /* True if the device is within its ranges and its variant is 1 to 3. */
 bool second_device_in_range(const second_device *device);
 
-/* True if the reader state is within the ranges of "Codes of the reader". */
+/* True if the reader state is within the ranges of "Codes of the reader" and of
+ * request a. */
 bool second_reader_in_range(const second_reader *reader);
 
 /* The device as after power-on; all zeros if the variant is not 1 to 3. */
