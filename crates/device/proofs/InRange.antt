@@ -4,7 +4,7 @@
 use mathlib.Core.Path.{_≡_, refl, sym, ap, subst, _∙_}
 use mathlib.Core.Bool.{Bool, true, false, not, cond, _||_, _&&_}
 use mathlib.Core.List.{List, [], _∷_, map}
-use Prim.Native.Nat.{ℕ, _<_}
+use Prim.Native.Nat.{ℕ, _*_, _%_, _<_}
 use native.Mathlib.Omega.{arith}
 use native.Mathlib.Nat.{lt-of-le-of-lt}
 use lib.IntN.{ℤ, pos, negsuc, negℤ}
@@ -12,12 +12,12 @@ use lib.Signed.{mag, leZ}
 use lib.Dec.{eqb, ltb, leb, lit<}
 use lib.Bits.{bitAnd, bitOr, or-lt, and-le-r}
 use lib.ListN.{getD, set}
-use borrow.Author.Tests.{lt-ltb, ltb-true, le-leb, eqb-true}
+use borrow.Author.Tests.{lt-ltb, ltb-true, le-leb, eq-eqb, eqb-true}
 use Rattle.laws.proofs.Choices.{cond-ind, or-left}
 use Rattle.laws.proofs.Tables.{agree}
-use Rattle.temperature.specs.Temperature.{degreesOf, eighthsOf, openReading}
+use Rattle.temperature.specs.Temperature.{degreesOf, eighthsOf, openReading, wordOf}
 use Rattle.temperature.proofs.Laws.{held-scale}
-use Rattle.registers.specs.Bits.{has, alerting}
+use Rattle.registers.specs.Bits.{has}
 use Rattle.registers.specs.Page.{knownOf, readableOf, writableOf, writePositionOf, readPositionOf, oneShot, settingOf, changedOf, keptOf}
 use Rattle.registers.specs.Page.{powerOnOf, readOnlyOf, addressOf, Settable, settable}
 use Rattle.registers.specs.declared.Position.the-variants.{At}
@@ -29,13 +29,14 @@ use Rattle.device.specs.declared.Device.{Device}
 use Rattle.device.specs.declared.Outcome.{Outcome}
 use Rattle.device.specs.declared.Event.{Event}
 use Rattle.device.specs.declared.Event.the-variants.{Write, Read, Send, Receive, Convert, Open, PowerOn}
-use Rattle.device.specs.Pins.{comparatorOf}
-use Rattle.device.specs.Bus.{standbyOf, pointedOf, maskedOf, storedOf, storedIn, firedOf, putOf, statusClearedOf, statusReadOf}
+use Rattle.device.specs.Bus.{standbyOf, pointedOf, maskedOf, storedOf, storedIn, firedOf, putOf, readOutOf, statusClearedOf}
+use Rattle.device.specs.Bus.{latestLowOf, lowKeptOf, lowLetGoOf}
 use Rattle.device.specs.Bus.{afterReadOf, getOf, pointOf, respondsOf, respondOf, takesOf, convertedOf, senseOf, poweredOf, alertResponse, atOf}
 use Rattle.device.specs.Ranges.{masksOf, rangeTests, rangedOf}
 use Rattle.device.specs.Step.{effectOf}
 use Rattle.device.proofs.Tests.{each, of-each}
 use Rattle.device.proofs.Masks.{masks-at, set-masks, and-again}
+use Rattle.device.proofs.AfterRead.{read-ind}
 
 -- ---- the tests by name
 
@@ -48,6 +49,8 @@ pub record Ranged (d : Device) : Type 0 where
   pub live : ltb (d .sensed .live) 0x80 ≡ true
   pub masks : masksOf (d .settings) ≡ true
   pub pending : (not (d .pending) || standbyOf (d .settings)) ≡ true
+  pub low : eqb (d .low % 32) 0 ≡ true
+  pub lowkept : (d .lowkept || eqb (d .low) 0) ≡ true
 
 pub named : (d : Device) → rangedOf d ≡ true → Ranged d
 unfolding rangedOf
@@ -62,19 +65,33 @@ named d e =
       live = t .1 .1 .1 .1 .1 .0;
       masks = t .1 .1 .1 .1 .1 .1 .0;
       pending = t .1 .1 .1 .1 .1 .1 .1 .0;
+      low = t .1 .1 .1 .1 .1 .1 .1 .1 .0;
+      lowkept = t .1 .1 .1 .1 .1 .1 .1 .1 .1 .0;
     }
 
 pub of-named : (d : Device) → Ranged d → rangedOf d ≡ true
 unfolding rangedOf
 of-named d r =
-    of-each (rangeTests d) (r .faults, (r .under, (r .over, (r .pointer, (r .status, (r .live, (r .masks, (r .pending, tt))))))))
+    of-each (rangeTests d)
+    (r .faults, (r .under, (r .over, (r .pointer, (r .status, (r .live, (r .masks, (r .pending, (r .low, (r .lowkept, tt))))))))))
 
 -- ---- a device set up anew
 
 module _ {d : Device} (r : Ranged d) where
   pointed-ranged : (reg : ℕ) → knownOf reg ≡ true → Ranged (pointedOf d reg)
   pointed-ranged reg k =
-      record { faults = r .faults; under = r .under; over = r .over; pointer = k; status = r .status; live = r .live; masks = r .masks; pending = r .pending }
+      record {
+        faults = r .faults;
+        under = r .under;
+        over = r .over;
+        pointer = k;
+        status = r .status;
+        live = r .live;
+        masks = r .masks;
+        pending = r .pending;
+        low = r .low;
+        lowkept = r .lowkept;
+      }
 
   stored-ranged : (w i v : ℕ) → writePositionOf w ≡ At i → Ranged (storedOf d w v)
   unfolding storedOf
@@ -88,6 +105,8 @@ module _ {d : Device} (r : Ranged d) where
         live = r .live;
         masks = rw (write-changed (d .settings) w i (bitAnd v (keptOf w)) p) (set-masks (d .settings) i (bitAnd v (keptOf w)) (stays w i v p) (r .masks));
         pending = both (d .pending) (standbyOf (storedIn d w v));
+        low = r .low;
+        lowkept = r .lowkept;
       }
     where
       stays : (w i v : ℕ) → writePositionOf w ≡ At i → bitAnd (bitAnd v (keptOf w)) (keptAt i) ≡ bitAnd v (keptOf w)
@@ -110,6 +129,8 @@ module _ {d : Device} (r : Ranged d) where
         live = r .live;
         masks = r .masks;
         pending = still (d .pending) (standbyOf (d .settings)) (r .pending);
+        low = r .low;
+        lowkept = r .lowkept;
       }
     where
       still : (p s : Bool) → (not p || s) ≡ true → (not (p || s) || s) ≡ true
@@ -117,9 +138,33 @@ module _ {d : Device} (r : Ranged d) where
       still false true e = refl
       still false false e = refl
 
+  read-out-ranged : (status low : ℕ) (lowkept : Bool) → ltb status 0x80 ≡ true → eqb (low % 32) 0 ≡ true → (lowkept || eqb low 0) ≡ true
+      → Ranged (readOutOf d status low lowkept)
+  read-out-ranged status low lowkept s l k =
+      record {
+        faults = r .faults;
+        under = r .under;
+        over = r .over;
+        pointer = r .pointer;
+        status = s;
+        live = r .live;
+        masks = r .masks;
+        pending = r .pending;
+        low = l;
+        lowkept = k;
+      }
+
   quiet-ranged : Ranged (statusClearedOf d)
-  quiet-ranged =
-      record { faults = r .faults; under = r .under; over = r .over; pointer = r .pointer; status = refl; live = r .live; masks = r .masks; pending = r .pending }
+  quiet-ranged = read-out-ranged 0 (d .low) (d .lowkept) refl (r .low) (r .lowkept)
+
+  kept-ranged : Ranged (lowKeptOf d)
+  kept-ranged = read-out-ranged (d .status) (latestLowOf d) true (r .status) (eq-eqb _ 0 (top-bits (wordOf (d .sensed .remote) % 8))) refl
+    where
+      top-bits : (k : ℕ) → k * 32 % 32 ≡ 0
+      top-bits k = omega arith
+
+  gone-ranged : Ranged (lowLetGoOf d)
+  gone-ranged = read-out-ranged (d .status) 0 false (r .status) refl refl
 
 -- ---- the ALERT mask bit
 
@@ -163,6 +208,8 @@ masked-ranged {d} r =
       live = r .live;
       masks = subst (λ (l : List ℕ). masksOf l ≡ true) (sym change) kept;
       pending = subst (λ (l : List ℕ). (not (d .pending) || standbyOf l) ≡ true) (sym change) still;
+      low = r .low;
+      lowkept = r .lowkept;
     }
 
 -- ---- a conversion
@@ -187,6 +234,8 @@ converted-ranged d local remote broken h r =
       live = lt-ltb _ 0x80 (live-bound _ _ broken);
       masks = r .masks;
       pending = refl;
+      low = r .low;
+      lowkept = r .lowkept;
     }
 
 -- ---- power-on
@@ -217,6 +266,8 @@ powered-ranged v =
       live = refl;
       masks = powered-masks v;
       pending = refl;
+      low = refl;
+      lowkept = refl;
     }
 
 pub powered-in-range : (v : ℕ) → rangedOf (poweredOf v) ≡ true
@@ -237,13 +288,11 @@ module _ {d : Device} (r : Ranged d) where
       (λ _. r)
 
   read-ranged : (reg : ℕ) → readableOf reg ≡ true → Ranged (afterReadOf (pointedOf d reg) reg)
-  unfolding statusReadOf knownOf
+  unfolding knownOf
   read-ranged reg e =
       let p = pointed-ranged r reg (or-left (readableOf reg) (writableOf reg) e) in
       let q = quiet-ranged p in
-      cond-ind Ranged (eqb reg 0x02)
-      (λ _. cond-ind Ranged (not (comparatorOf (pointedOf d reg)) && has (d .status) alerting) (λ _. masked-ranged q) (λ _. q))
-      (λ _. p)
+      read-ind Ranged (pointedOf d reg) reg (λ _. kept-ranged p) (λ _ _. q) (λ _ _. masked-ranged q) (λ _. gone-ranged p) (λ _ _ _. p)
 
   get-ranged : (reg : ℕ) → After (getOf d reg)
   unfolding getOf

@@ -3,22 +3,21 @@
 -- conversions and power-on move readings, live byte, fault count and latches. `same-variant`: nothing changes the variant.
 -- Assumes nothing.
 use mathlib.Core.Path.{_≡_, refl}
-use mathlib.Core.Bool.{Bool, true, false, not, cond, _&&_}
+use mathlib.Core.Bool.{Bool, true, false, cond}
 use Prim.Native.Nat.{ℕ}
 use lib.IntN.{ℤ}
 use lib.Dec.{eqb}
 use Rattle.laws.proofs.Choices.{cond-ind}
-use Rattle.registers.specs.Bits.{has, alerting}
 use Rattle.registers.specs.Page.{readableOf, writableOf, knownOf, oneShot, addressOf}
 use Rattle.device.specs.declared.Device.{Device}
 use Rattle.device.specs.declared.Outcome.{Outcome}
 use Rattle.device.specs.declared.Event.{Event}
 use Rattle.device.specs.declared.Event.the-variants.{Write, Read, Send, Receive, Convert, Open, PowerOn}
-use Rattle.device.specs.Pins.{comparatorOf}
-use Rattle.device.specs.Bus.{silentOf, pointedOf, maskedOf, storedOf, firedOf, putOf, statusClearedOf, statusReadOf, getOf, pointOf}
+use Rattle.device.specs.Bus.{silentOf, pointedOf, maskedOf, storedOf, firedOf, putOf, statusClearedOf, getOf, pointOf}
 use Rattle.device.specs.Bus.{respondsOf, respondOf, takesOf, convertedOf, senseOf, poweredOf, alertResponse, atOf}
 use Rattle.device.specs.Profile.{OnBus, AtAnother, OutsideProfile}
 use Rattle.device.specs.Step.{effectOf}
+use Rattle.device.proofs.AfterRead.{read-ind}
 
 -- ---- at another address
 
@@ -88,14 +87,17 @@ module _ (d : Device) where
       (λ _. same)
 
   get-same : (r : ℕ) → Same d (getOf d r .device)
-  unfolding getOf statusReadOf
+  unfolding getOf
   get-same r =
+      let pointed : Same d (pointedOf d r) = record { sensed = refl; variant = refl } in
+      let cleared : Same d (statusClearedOf (pointedOf d r)) = record { sensed = refl; variant = refl } in
       cond-ind (λ (o : Outcome). Same d (o .device)) (readableOf r)
-      (λ _. cond-ind (Same d) (eqb r 0x02)
-      (λ _. cond-ind (Same d) (not (comparatorOf (pointedOf d r)) && has (d .status) alerting)
-      (λ _. masked-same (statusClearedOf (pointedOf d r)) (record { sensed = refl; variant = refl }))
-      (λ _. record { sensed = refl; variant = refl }))
-      (λ _. record { sensed = refl; variant = refl }))
+      (λ _. read-ind (Same d) (pointedOf d r) r
+      (λ _. record { sensed = refl; variant = refl })
+      (λ _ _. cleared)
+      (λ _ _. masked-same (statusClearedOf (pointedOf d r)) cleared)
+      (λ _. record { sensed = refl; variant = refl })
+      (λ _ _ _. pointed))
       (λ _. same)
 
   point-same : (r : ℕ) → Same d (pointOf d r .device)

@@ -106,11 +106,11 @@ abbrev pub latestLowOf : Device → ℕ
 latestLowOf d = lowByteOf (d .sensed .remote)
 
 -- a: a read of 01 keeps that moment's low byte, whatever was kept before it
-unfoldable pub lowKeptOf : Device → Device
+abbrev pub lowKeptOf : Device → Device
 lowKeptOf d = readOutOf d (d .status) (latestLowOf d) true
 
 -- a: a read of 10 lets go
-unfoldable pub lowLetGoOf : Device → Device
+abbrev pub lowLetGoOf : Device → Device
 lowLetGoOf d = readOutOf d (d .status) 0 false
 
 -- a: register 10 reads the kept low byte; with nothing kept, the latest

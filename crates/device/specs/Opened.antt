@@ -2,7 +2,7 @@
 -- Assumes nothing.
 use Rattle.conversion.specs.Opened.{conversionOpened}
 use Rattle.device.specs.Pins.{comparatorOf, watchedOf, alertOf, tcritOf, pinsOf, firstOf}
-use Rattle.device.specs.Bus.{maskedOf, storedOf, firedOf, putOf, statusReadOf, lowKeptOf, lowLetGoOf, lowReadOf, readOnlyValueOf}
+use Rattle.device.specs.Bus.{maskedOf, storedOf, firedOf, putOf, statusReadOf, lowReadOf, readOnlyValueOf}
 use Rattle.device.specs.Bus.{valueOf, afterReadOf, getOf, pointOf, respondsOf, respondOf}
 use Rattle.device.specs.Bus.{takesOf, convertedOf, senseOf, poweredOf}
 use Rattle.device.specs.Ranges.{variantOf, masksOf, rangedOf, operandsOf}
@@ -17,7 +17,7 @@ unfolding maskedOf storedOf firedOf putOf
 writesOpened = tt
 
 unfoldable readsOpened : Unit {0}
-unfolding statusReadOf lowKeptOf lowLetGoOf lowReadOf readOnlyValueOf valueOf afterReadOf getOf pointOf respondsOf respondOf
+unfolding statusReadOf lowReadOf readOnlyValueOf valueOf afterReadOf getOf pointOf respondsOf respondOf
 readsOpened = tt
 
 unfoldable convertsOpened : Unit {0}

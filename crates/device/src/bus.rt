@@ -108,7 +108,11 @@ fn low_read(d: Device) -> u8
     ensures { λ r. ⌜ r ≡ lowReadOf d ⌝ }
 {
     let s = d.sensed;
-    if d.lowkept { d.low } else { temperature::low_byte(s.remote) }
+    if d.lowkept {
+        d.low
+    } else {
+        temperature::low_byte(s.remote)
+    }
 }
 
 // A read of 01 keeps the low byte of its moment.
@@ -137,9 +141,9 @@ fn after_read(d: Device, reg: u8) -> Device
     ensures { λ r. ⌜ r ≡ afterReadOf d reg ⌝ }
 {
     match reg {
-        0x01 => low_kept(d),
-        0x02 => status_read(d),
-        0x10 => low_let_go(d),
+        registers::REMOTE => low_kept(d),
+        registers::STATUS => status_read(d),
+        registers::REMOTE_PART => low_let_go(d),
         _ => d,
     }
 }
@@ -149,10 +153,10 @@ fn read_only_value(d: Device, reg: u8) -> u8
 {
     let s = d.sensed;
     match reg {
-        0x00 => s.local,
-        0x01 => temperature::high_byte(s.remote),
-        0x02 => d.status,
-        0x10 => low_read(d),
+        registers::LOCAL => s.local,
+        registers::REMOTE => temperature::high_byte(s.remote),
+        registers::STATUS => d.status,
+        registers::REMOTE_PART => low_read(d),
         _ => registers::read_only(d.variant, reg),
     }
 }

@@ -23,7 +23,7 @@ use Rattle.device.specs.declared.Outcome.{Outcome}
 use Rattle.device.specs.declared.Event.{Event}
 use Rattle.device.specs.declared.Event.the-variants.{Read, Receive}
 use Rattle.device.specs.Pins.{comparatorOf, watchedOf, alertOf, tcritOf, pinsOf, firstOf}
-use Rattle.device.specs.Bus.{maskedOf, statusReadOf, readOnlyValueOf, valueOf, getOf, respondsOf, respondOf}
+use Rattle.device.specs.Bus.{maskedOf, statusReadOf, readOnlyValueOf, valueOf, afterReadOf, getOf, respondsOf, respondOf}
 use Rattle.device.specs.Step.{effectOf, answerOf, stepOf}
 use Rattle.device.specs.Ranges.{operandsOf}
 use Rattle.device_laws.specs.Codes.{Ready}
@@ -115,6 +115,8 @@ module _ (d : Device) where
         variant = rw answers;
         pointer = rw answers;
         pending = rw answers;
+        low = rw answers;
+        lowkept = rw answers;
         status = rw answers;
         sensed = rw answers;
         mask = rw answers (mask-bit (d .settings) _ long);
@@ -129,6 +131,8 @@ module _ (d : Device) where
         variant = rw silent;
         pointer = rw silent;
         pending = rw silent;
+        low = rw silent;
+        lowkept = rw silent;
         status = rw silent;
         sensed = rw silent;
         mask = rw silent;
@@ -153,7 +157,7 @@ module _ (d : Device) where
 
   gets-status : length (d .settings) ≡ 14 → (t : Bool) → (not (has (settingOf (d .settings) 0xBF) 0x01) && anyOfSix (d .status)) ≡ t
       → StatusRead d (getOf d 0x02)
-  unfolding getOf statusReadOf maskedOf readableOf valueOf settableOf readOnlyValueOf comparatorOf
+  unfolding getOf afterReadOf statusReadOf maskedOf readableOf valueOf settableOf readOnlyValueOf comparatorOf
   gets-status long true e =
       let sets = masks ∙ e in
       record {
@@ -164,6 +168,8 @@ module _ (d : Device) where
         variant = rw sets;
         pointer = rw sets;
         pending = rw sets;
+        low = rw sets;
+        lowkept = rw sets;
         sensed = rw sets;
         mask = rw (sets, e) (mask-bit (d .settings) _ long);
         others = λ r h. rw sets (others-same (d .settings) _ r h);
@@ -178,6 +184,8 @@ module _ (d : Device) where
         variant = rw leaves;
         pointer = rw leaves;
         pending = rw leaves;
+        low = rw leaves;
+        lowkept = rw leaves;
         sensed = rw leaves;
         mask = rw (leaves, e);
         others = λ r h. rw leaves;

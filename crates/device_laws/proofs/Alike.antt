@@ -22,7 +22,8 @@ use Rattle.device.specs.declared.Event.{Event}
 use Rattle.device.specs.declared.Event.the-variants.{Write, Read, Send, Receive, Convert, Open, PowerOn}
 use Rattle.device.specs.Pins.{comparatorOf, watchedOf, alertOf, tcritOf, pinsOf}
 use Rattle.device.specs.Bus.{silentOf, answeredOf, setUpOf, standbyOf, pointedOf, maskedOf, storedOf, storedIn, firedOf, writtenOf, putOf}
-use Rattle.device.specs.Bus.{statusClearedOf, statusReadOf, readOnlyValueOf, valueOf, getOf, pointOf, respondsOf, respondOf}
+use Rattle.device.specs.Bus.{readOutOf, statusClearedOf, statusReadOf, latestLowOf, lowKeptOf, lowLetGoOf, lowReadOf, afterReadOf}
+use Rattle.device.specs.Bus.{readOnlyValueOf, valueOf, getOf, pointOf, respondsOf, respondOf}
 use Rattle.device.specs.Bus.{takesOf, gatheredOf, convertedOf, senseOf, alertResponse, atOf}
 use Rattle.device_laws.specs.Moves.{ownOf}
 use Rattle.device_laws.specs.Alike.{blanked, blankOf, Alike, readsThem, AnswerAlike, shownReply, shownReplies}
@@ -181,7 +182,7 @@ module _ (d : Device) (t : List ℕ) (h : blanked (d .settings) ≡ blanked t) w
       written false = stored-alike w v
 
   value-alike : (r : ℕ) → eqb r 0x04 ≡ false → eqb r 0xBF ≡ false → valueOf d r ≡ valueOf other r
-  unfolding valueOf readOnlyValueOf
+  unfolding valueOf readOnlyValueOf lowReadOf
   value-alike r e f = ap (λ (x : ℕ). cond (settableOf r) x (readOnlyValueOf d r)) (setting-alike (d .settings) t h r e f)
 
   -- P6: both set the mask bit, or neither
@@ -198,11 +199,24 @@ module _ (d : Device) (t : List ℕ) (h : blanked (d .settings) ≡ blanked t) w
       split true false e c = clash (sym e)
       split false true e c = clash e
 
+  -- request a: what is kept, and let go, is no setting's
+  read-alike : (r : ℕ) → Alike (afterReadOf (pointedOf d r) r) (afterReadOf (pointedOf other r) r)
+  unfolding afterReadOf
+  read-alike r = split (eqb r 0x01) (eqb r 0x02) (eqb r 0x10)
+    where
+      split : (one two ten : Bool)
+          → Alike (cond one (lowKeptOf (pointedOf d r)) (cond two (statusReadOf (pointedOf d r)) (cond ten (lowLetGoOf (pointedOf d r)) (pointedOf d r))))
+          (cond one (lowKeptOf (pointedOf other r)) (cond two (statusReadOf (pointedOf other r)) (cond ten (lowLetGoOf (pointedOf other r)) (pointedOf other r))))
+      split true two ten = ap (λ (l : List ℕ). readOutOf (setUpOf d r (d .pending) l) (d .status) (latestLowOf d) true) h
+      split false true ten = status-read-alike r
+      split false false true = ap (λ (l : List ℕ). readOutOf (setUpOf d r (d .pending) l) (d .status) 0 false) h
+      split false false false = set-alike r (d .pending) (d .pending) (d .settings) t refl h
+
   get-like : (r : ℕ) → Like (getOf d r) (getOf other r) (eqb r 0x04 || eqb r 0xBF)
   unfolding getOf
   get-like r =
       choose (eqb r 0x04 || eqb r 0xBF) (readableOf r) (readableOf r) refl
-      (record { acknowledged = refl; taken = refl; byte = unless; device = read (eqb r 0x02) })
+      (record { acknowledged = refl; taken = refl; byte = unless; device = read-alike r })
       (silent-like (eqb r 0x04 || eqb r 0xBF))
     where
       unless : (eqb r 0x04 || eqb r 0xBF) ≡ false → valueOf d r ≡ valueOf other r
@@ -211,10 +225,6 @@ module _ (d : Device) (t : List ℕ) (h : blanked (d .settings) ≡ blanked t) w
           neither : (a b : Bool) → (a || b) ≡ false → (a ≡ false) × (b ≡ false)
           neither true b e = clash (sym e)
           neither false b e = (refl, e)
-
-      read : (s : Bool) → Alike (cond s (statusReadOf (pointedOf d r)) (pointedOf d r)) (cond s (statusReadOf (pointedOf other r)) (pointedOf other r))
-      read true = status-read-alike r
-      read false = set-alike r (d .pending) (d .pending) (d .settings) t refl h
 
   point-like : (r : ℕ) → Like (pointOf d r) (pointOf other r) false
   unfolding pointOf

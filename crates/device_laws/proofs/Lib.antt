@@ -6,6 +6,7 @@ pub mod Conversions
 pub mod Changes
 pub mod Moves
 pub mod Registers
+pub mod LowByte
 pub mod Alike
 pub mod Bits
 pub mod AfterConversion

@@ -1,4 +1,4 @@
--- What moves each part of a device, for every device and event: `pointer-moves`, `pending-moves`, `status-moves`, `local-moves`,
+-- What moves each part of a device, for every device and event: `pointer-moves`, `pending-moves`, `status-moves`, `low-moves`, `local-moves`,
 -- `remote-moves`, `faults-moves`; `sensed-rests` and `sensed-starts` for these three with the live byte and the latches; and what is
 -- acknowledged and taken: `acknowledged-exactly` and `taken-exactly`.
 -- Assumes nothing.
@@ -22,15 +22,16 @@ use Rattle.device.specs.declared.Outcome.{Outcome}
 use Rattle.device.specs.declared.Event.{Event}
 use Rattle.device.specs.declared.Event.the-variants.{Write, Read, Send, Receive, Convert, Open, PowerOn}
 use Rattle.device.specs.Pins.{comparatorOf, watchedOf, alertOf}
-use Rattle.device.specs.Bus.{silentOf, answeredOf, standbyOf, maskedOf, storedOf, storedIn, firedOf, writtenOf, putOf, pointedOf, statusClearedOf}
-use Rattle.device.specs.Bus.{afterReadOf, statusReadOf, valueOf, getOf, pointOf, respondsOf, respondOf, takesOf, convertedOf, senseOf}
+use Rattle.device.specs.Bus.{silentOf, answeredOf, standbyOf, maskedOf, storedOf, storedIn, firedOf, writtenOf, putOf, pointedOf}
+use Rattle.device.specs.Bus.{afterReadOf, valueOf, getOf, pointOf, respondsOf, respondOf, takesOf, convertedOf, senseOf}
 use Rattle.device.specs.Bus.{poweredOf, alertResponse, atOf}
 use Rattle.device_laws.specs.Moves.{byteAt, ownOf, anySet, inStandby, takenOf, namedOf, pointerAfter, pendingAfter, localAfter, remoteAfter, countAfter}
-use Rattle.device_laws.specs.Moves.{restsAt, sampleOf, faultsAfter, statusAfter, answersAlert, acknowledgedOf, takenBy}
+use Rattle.device_laws.specs.Moves.{restsAt, sampleOf, faultsAfter, statusAfter, keptLow, lowAfterRead, lowAfter, answersAlert, acknowledgedOf, takenBy}
 use Rattle.device.specs.Ranges.{rangedOf}
 use Rattle.device.specs.Step.{effectOf}
 use Rattle.device_laws.proofs.Changes.{on-list, setting-other, and-assoc}
 use Rattle.device.proofs.InRange.{named}
+use Rattle.device.proofs.AfterRead.{read-ind}
 use Rattle.device.proofs.Untouched.{still}
 
 -- ---- choices
@@ -97,14 +98,6 @@ module _ {A : Type 0} (f : Device → A) (d : Device) where
   unfolding senseOf takesOf
   sense-moves local remote broken x h = choice-moves (takesOf d) _ x h
 
--- what holds of a device before a read, and of it with status cleared and the mask set or not, holds after the read
-read-ind : (P : Device → Type 0) (d : Device) (r : ℕ)
-    → (eqb r 0x02 ≡ false → P d) → (eqb r 0x02 ≡ true → P (statusClearedOf d)) → (eqb r 0x02 ≡ true → P (maskedOf (statusClearedOf d)))
-    → P (afterReadOf d r)
-unfolding statusReadOf
-read-ind P d r plain cleared masked =
-    cond-ind P (eqb r 0x02) (λ t. cond-ind P (not (comparatorOf d) && anySet (d .status) 0x7B) (λ _. masked t) (λ _. cleared t)) plain
-
 -- ---- the pointer
 
 module _ (d : Device) where
@@ -114,7 +107,7 @@ module _ (d : Device) where
 
   read-pointer : (r : ℕ) → afterReadOf (pointedOf d r) r .pointer ≡ r
   unfolding maskedOf
-  read-pointer r = read-ind (λ (e : Device). e .pointer ≡ r) (pointedOf d r) r (λ _. refl) (λ _. refl) (λ _. refl)
+  read-pointer r = read-ind (λ (e : Device). e .pointer ≡ r) (pointedOf d r) r (λ _. refl) (λ _ _. refl) (λ _ _. refl) (λ _. refl) (λ _ _ _. refl)
 
   masked-pointer : maskedOf d .pointer ≡ d .pointer
   unfolding maskedOf
@@ -214,7 +207,7 @@ module _ (d : Device) (ranged : rangedOf d ≡ true) where
   unfolding maskedOf
   get-pending r =
       get-moves (λ (e : Device). e .pending) d r (d .pending)
-      (read-ind (λ (e : Device). e .pending ≡ d .pending) (pointedOf d r) r (λ _. refl) (λ _. refl) (λ _. refl))
+      (read-ind (λ (e : Device). e .pending ≡ d .pending) (pointedOf d r) r (λ _. refl) (λ _ _. refl) (λ _ _. refl) (λ _. refl) (λ _ _ _. refl))
       ∙ cond-same (among r R) (d .pending)
 
   point-pending : (r : ℕ) → pointOf d r .device .pending ≡ d .pending
@@ -245,7 +238,9 @@ module _ (d : Device) (ranged : rangedOf d ≡ true) where
 module _ (d : Device) where
   read-status : (r : ℕ) → afterReadOf (pointedOf d r) r .status ≡ cond (eqb r 0x02) 0 (d .status)
   unfolding maskedOf
-  read-status r = read-ind (λ (e : Device). e .status ≡ cond (eqb r 0x02) 0 (d .status)) (pointedOf d r) r (λ t. rw t) (λ t. rw t) (λ t. rw t)
+  read-status r =
+      read-ind (λ (e : Device). e .status ≡ cond (eqb r 0x02) 0 (d .status)) (pointedOf d r) r
+      (λ t. rw (eqb-true r 0x01 t)) (λ t _. rw t) (λ t _. rw t) (λ t. rw (eqb-true r 0x10 t)) (λ _ t _. rw t)
 
   get-status : (r : ℕ) → getOf d r .device .status ≡ cond (eqb r 0x02) 0 (d .status)
   unfolding getOf readableOf
@@ -292,6 +287,59 @@ status-moves d (Receive a) = receive-status d a
 status-moves d (Convert local high low) = sense-status d local _ false
 status-moves d (Open local) = sense-status d local _ true
 status-moves d PowerOn = zero-at (d .variant) 0x02 refl
+
+-- ---- the kept low byte, by request a
+
+module _ (d : Device) where
+  read-low : (r : ℕ) → keptLow (afterReadOf (pointedOf d r) r) ≡ lowAfterRead d true r
+  unfolding maskedOf
+  read-low r =
+      read-ind (λ (e : Device). keptLow e ≡ lowAfterRead d true r) (pointedOf d r) r
+      (λ t. rw t) (λ t _. rw (eqb-true r 0x02 t)) (λ t _. rw (eqb-true r 0x02 t)) (λ t. rw (eqb-true r 0x10 t)) (λ s _ t. rw (s, t))
+
+  get-low : (r : ℕ) → keptLow (getOf d r .device) ≡ lowAfterRead d true r
+  unfolding getOf readableOf
+  get-low r = cond-ind (λ (o : Outcome). keptLow (o .device) ≡ lowAfterRead d true r) (readableOf r)
+      (λ _. read-low r)
+      (λ m. rw (outside R 0x01 r refl m, outside R 0x10 r refl m))
+
+  at-low : (a r : ℕ) → keptLow (atOf d a (getOf d r) .device) ≡ lowAfterRead d (ownOf d a) r
+  unfolding addressOf
+  at-low a r = split (ownOf d a)
+    where
+      split : (s : Bool) → keptLow (cond s (getOf d r) (silentOf d) .device) ≡ lowAfterRead d s r
+      split true = get-low r
+      split false = refl
+
+  put-low : (w v : ℕ) → keptLow (putOf d w v .device) ≡ keptLow d
+  unfolding firedOf storedOf
+  put-low w v =
+      put-moves keptLow d w v (keptLow d) (cond-ind (λ (e : Device). keptLow e ≡ keptLow d) (eqb w 0x0F) (λ _. refl) (λ _. refl))
+      ∙ cond-same (among w W) (keptLow d)
+
+  point-low : (r : ℕ) → keptLow (pointOf d r .device) ≡ keptLow d
+  point-low r = point-moves keptLow d r (keptLow d) refl ∙ cond-same (namedOf r) (keptLow d)
+
+  receive-low : (a : ℕ) → keptLow (effectOf d (Receive a) .device) ≡ lowAfterRead d (ownOf d a) (d .pointer)
+  unfolding effectOf maskedOf
+  receive-low a =
+      cond-ind (λ (o : Outcome). keptLow (o .device) ≡ lowAfterRead d (ownOf d a) (d .pointer)) (eqb a alertResponse)
+      (λ t. rw (response-apart d a t) (respond-leaves keptLow d refl))
+      (λ _. at-low a (d .pointer))
+
+  sense-low : (local : ℕ) (remote : ℤ) (broken : Bool) → keptLow (senseOf d local remote broken .device) ≡ keptLow d
+  unfolding convertedOf
+  sense-low local remote broken = sense-moves keptLow d local remote broken (keptLow d) refl ∙ cond-same (takenOf d) (keptLow d)
+
+pub low-moves : (d : Device) (e : Event) → keptLow (effectOf d e .device) ≡ lowAfter d e
+unfolding effectOf poweredOf
+low-moves d (Write a w v) = at-leaves keptLow d a (putOf d w v) (put-low d w v)
+low-moves d (Read a r) = at-low d a r
+low-moves d (Send a r) = at-leaves keptLow d a (pointOf d r) (point-low d r)
+low-moves d (Receive a) = receive-low d a
+low-moves d (Convert local high low) = sense-low d local _ false
+low-moves d (Open local) = sense-low d local _ true
+low-moves d PowerOn = refl
 
 -- ---- the readings and the fault count
 

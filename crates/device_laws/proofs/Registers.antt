@@ -21,12 +21,13 @@ use Rattle.device.specs.declared.Outcome.{Outcome}
 use Rattle.device.specs.declared.Event.{Event}
 use Rattle.device.specs.declared.Event.the-variants.{Write, Read, Send, Receive, Convert, Open, PowerOn}
 use Rattle.device.specs.Pins.{comparatorOf}
-use Rattle.device.specs.Bus.{silentOf, answeredOf, maskedOf, storedOf, firedOf, putOf, pointedOf, statusReadOf, statusClearedOf}
+use Rattle.device.specs.Bus.{silentOf, answeredOf, maskedOf, storedOf, firedOf, putOf, pointedOf, readOutOf, lowReadOf}
 use Rattle.device.specs.Bus.{afterReadOf, readOnlyValueOf, valueOf, getOf, pointOf, respondsOf, respondOf, convertedOf, takesOf, senseOf, poweredOf, atOf}
 use Rattle.device_laws.specs.Moves.{byteAt, ownOf, takenOf, namedOf, fourteen, readNumber, keptBits, startByte, findsAlert, maskedAt, answersAlert}
 use Rattle.device_laws.specs.Moves.{settingAfter, shownAt, registerByte, byteRead}
 use Rattle.device.specs.Ranges.{variantOf}
 use Rattle.device.specs.Step.{effectOf}
+use Rattle.device.proofs.AfterRead.{read-ind}
 use Rattle.device_laws.proofs.Changes.{on-list, setting-changed}
 use Rattle.device_laws.proofs.Moves.{cond-same, outside, response-apart, at-moves, at-leaves, point-moves, sense-moves, responds-exactly}
 
@@ -128,29 +129,24 @@ module _ (d : Device) (whole : length (d .settings) ≡ 14) (q : ℕ) where
       unmoved : among w fourteen ≡ false → byteAt d q ≡ putByte w v
       unmoved t = sym (beside (among w fourteen) (eqb q (readNumber w)) (bitAnd v (keptBits q)) (byteAt d q) t)
 
-  masked-byte : (p : ℕ) (pending : Bool) (status : ℕ)
-      → byteAt (maskedOf (record { variant = d .variant; pointer = p; pending = pending; status = status; sensed = d .sensed; settings = d .settings })) q
-      ≡ maskedAt d true q
+  masked-byte : (p status : ℕ) → byteAt (maskedOf (readOutOf (pointedOf d p) status (d .low) (d .lowkept))) q ≡ maskedAt d true q
   unfolding maskedOf settableOf
-  masked-byte p pending status =
+  masked-byte p status =
       setting-changed (d .settings) q 0x03 (bitOr (byteAt d 0x03) 0x80) whole refl
       ∙ by-test (eqb q 0x03) (λ t. rw (t, eqb-true q 0x03 t)) (λ t. rw t)
 
   -- P6, at the own address
   get-byte : (r : ℕ) → byteAt (getOf d r .device) q ≡ maskedAt d (eqb r 0x02 && findsAlert d) q
-  unfolding getOf statusReadOf comparatorOf readableOf
+  unfolding getOf comparatorOf readableOf
   get-byte r =
       cond-ind (λ (o : Outcome). byteAt (o .device) q ≡ maskedAt d (eqb r 0x02 && findsAlert d) q) (readableOf r)
-      (λ _. read (eqb r 0x02))
+      (λ _. read-ind (λ (e : Device). byteAt e q ≡ maskedAt d (eqb r 0x02 && findsAlert d) q) (pointedOf d r) r
+      (λ t. rw (eqb-true r 0x01 t))
+      (λ t f. rw (t, f))
+      (λ t f. rw (t, f) (masked-byte r 0))
+      (λ t. rw (eqb-true r 0x10 t))
+      (λ _ t _. rw t))
       (λ t. rw (outside R 0x02 r refl t))
-    where
-      found : (s : Bool) → byteAt (cond s (maskedOf (statusClearedOf (pointedOf d r))) (statusClearedOf (pointedOf d r))) q ≡ maskedAt d s q
-      found true = masked-byte r (d .pending) 0
-      found false = refl
-
-      read : (s : Bool) → byteAt (cond s (statusReadOf (pointedOf d r)) (pointedOf d r)) q ≡ maskedAt d (s && findsAlert d) q
-      read true = found (findsAlert d)
-      read false = refl
 
   -- P9
   respond-byte : byteAt (respondOf d .device) q ≡ maskedAt d (answersAlert d) q
@@ -162,7 +158,7 @@ module _ (d : Device) (whole : length (d .settings) ≡ 14) (q : ℕ) where
       answered = answeredOf (maskedOf d) (addressOf (d .variant) * 2 + 1)
 
       split : (t : Bool) → byteAt (cond t answered (silentOf d) .device) q ≡ maskedAt d t q
-      split true = masked-byte (d .pointer) (d .pending) (d .status)
+      split true = masked-byte (d .pointer) (d .status)
       split false = refl
 
   at-byte : (a : ℕ) (own : Outcome) (t : Bool) → byteAt (own .device) q ≡ maskedAt d t q → byteAt (atOf d a own .device) q ≡ maskedAt d (ownOf d a && t) q
@@ -239,7 +235,7 @@ setting-moves d PowerOn whole variant q = powered-byte (d .variant) variant q
 -- ---- the byte read
 
 shown-read : (d : Device) (r : ℕ) → among r R ≡ true → valueOf d r ≡ shownAt d (readOnlyOf (d .variant) 0xFE) (readOnlyOf (d .variant) 0xFF) r
-unfolding valueOf settableOf readOnlyValueOf
+unfolding valueOf settableOf readOnlyValueOf lowReadOf
 shown-read d = on-list (valueOf d) (shownAt d (readOnlyOf (d .variant) 0xFE) (readOnlyOf (d .variant) 0xFF)) R refl
 
 manufacturer : (v : ℕ) → variantOf v ≡ true → readOnlyOf v 0xFE ≡ 0x01

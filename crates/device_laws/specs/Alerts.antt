@@ -23,6 +23,8 @@ pub record Responds (d : Device) (o : Outcome) : Type 0 where
   pub variant : o .device .variant ≡ d .variant
   pub pointer : o .device .pointer ≡ d .pointer
   pub pending : o .device .pending ≡ d .pending
+  pub low : o .device .low ≡ d .low
+  pub lowkept : o .device .lowkept ≡ d .lowkept
   pub status : o .device .status ≡ d .status
   pub sensed : o .device .sensed ≡ d .sensed
   pub mask : settingOf (o .device .settings) 0x03 ≡ cond (o .acknowledged) (bitOr (settingOf (d .settings) 0x03) 0x80) (settingOf (d .settings) 0x03)
@@ -37,6 +39,8 @@ pub record StatusRead (d : Device) (o : Outcome) : Type 0 where
   pub variant : o .device .variant ≡ d .variant
   pub pointer : o .device .pointer ≡ 0x02
   pub pending : o .device .pending ≡ d .pending
+  pub low : o .device .low ≡ d .low
+  pub lowkept : o .device .lowkept ≡ d .lowkept
   -- latches and live byte too
   pub sensed : o .device .sensed ≡ d .sensed
   pub mask : settingOf (o .device .settings) 0x03

@@ -62,6 +62,9 @@ pub record Converted (d : Device) (e : Event) (o : Outcome) : Type 0 where
   pub pending : o .device .pending ≡ false
   pub variant : o .device .variant ≡ d .variant
   pub pointer : o .device .pointer ≡ d .pointer
+  -- request a: a kept low byte stays that of its own reading
+  pub low : o .device .low ≡ d .low
+  pub lowkept : o .device .lowkept ≡ d .lowkept
   pub settings : o .device .settings ≡ d .settings
   pub acknowledged : o .acknowledged ≡ false
   pub byte : o .byte ≡ 0

@@ -14,7 +14,7 @@ pub variants : map variantOf (0 ∷ 1 ∷ 2 ∷ 3 ∷ 4 ∷ []) ≡ false ∷ tr
 unfolding variantOf
 variants = refl
 
--- an LM89C with this pointer, pending one-shot, status, remote reading, live byte, fault count and settings
+-- an LM89C with this pointer, pending one-shot, status, remote reading, live byte, fault count and settings, and no low byte kept
 abbrev built : ℕ → Bool → ℕ → ℤ → ℕ → ℕ → List ℕ → Device
 built pointer pending status remote live faults settings =
     record {
@@ -22,8 +22,24 @@ built pointer pending status remote live faults settings =
       pointer = pointer;
       pending = pending;
       status = status;
+      low = 0;
+      lowkept = false;
       sensed = record { local = 0; remote = remote; live = live; faults = faults; llatch = false; rlatch = false };
       settings = settings;
+    }
+
+-- an LM89C as after power-on, with this low byte, kept or not
+abbrev keeping : ℕ → Bool → Device
+keeping low lowkept =
+    record {
+      variant = 1;
+      pointer = 0x00;
+      pending = false;
+      status = 0x00;
+      low = low;
+      lowkept = lowkept;
+      sensed = record { local = 0; remote = pos 0; live = 0x00; faults = 0; llatch = false; rlatch = false };
+      settings = 0 ∷ 8 ∷ 70 ∷ 0 ∷ 70 ∷ 0 ∷ 0 ∷ 0 ∷ 0 ∷ 0 ∷ 110 ∷ 85 ∷ 10 ∷ 0 ∷ [];
     }
 
 pub record End : Type 0 where
@@ -87,6 +103,21 @@ ends =
     -- one-shot pending only in standby
     end (built 0x00 true 0x00 (pos 0) 0x00 0 (64 ∷ 8 ∷ 70 ∷ 0 ∷ 70 ∷ 0 ∷ 0 ∷ 0 ∷ 0 ∷ 0 ∷ 110 ∷ 85 ∷ 10 ∷ 0 ∷ [])) true ∷
     end (built 0x00 true 0x00 (pos 0) 0x00 0 (0 ∷ 8 ∷ 70 ∷ 0 ∷ 70 ∷ 0 ∷ 0 ∷ 0 ∷ 0 ∷ 0 ∷ 110 ∷ 85 ∷ 10 ∷ 0 ∷ [])) false ∷
+    -- request a: the kept byte a multiple of 32
+    end (keeping 0x00 true) true ∷
+    end (keeping 0x01 true) false ∷
+    end (keeping 0x10 true) false ∷
+    end (keeping 0x1F true) false ∷
+    end (keeping 0x20 true) true ∷
+    end (keeping 0x21 true) false ∷
+    end (keeping 0xE0 true) true ∷
+    end (keeping 0xE1 true) false ∷
+    end (keeping 0xFF true) false ∷
+    -- and 0 where none is kept
+    end (keeping 0x00 false) true ∷
+    end (keeping 0x20 false) false ∷
+    end (keeping 0xE0 false) false ∷
+    end (keeping 0x01 false) false ∷
     []
 
 pub tested : map (λ (e : End). rangedOf (e .device)) ends ≡ map (λ (e : End). e .within) ends

@@ -5,10 +5,12 @@ pub mod Listing
 pub mod BothSides
 pub mod Examples
 pub mod Misread
+pub mod LowExamples
 pub mod Ends
 pub mod PowerOn
 pub mod Alerts
 pub mod Conversions
 pub mod Moves
+pub mod LowByte
 pub mod Alike
 pub mod AfterConversion

@@ -142,6 +142,29 @@ statusAfter d (Convert local high low) live = cond (takenOf d) (bitOr (d .status
 statusAfter d (Open local) live = cond (takenOf d) (bitOr (d .status) live) (d .status)
 statusAfter d PowerOn live = 0
 
+-- ---- the kept low byte, by request a
+
+-- the byte kept, and whether one is
+abbrev pub keptLow : Device → ℕ × Bool
+keptLow d = (d .low, d .lowkept)
+
+-- a read of register r, acknowledged at the own address alone: of 01 it keeps that moment's low byte, of 10 it lets go
+abbrev pub lowAfterRead : Device → Bool → ℕ → ℕ × Bool
+lowAfterRead d own r =
+    cond (own && eqb r 0x01) (lowByteOf (d .sensed .remote), true)
+    (cond (own && eqb r 0x10) (0, false)
+    (keptLow d))
+
+-- reads by pointer count alike; power-on lets go; nothing else moves it
+abbrev pub lowAfter : Device → Event → ℕ × Bool
+lowAfter d (Write a w v) = keptLow d
+lowAfter d (Read a r) = lowAfterRead d (ownOf d a) r
+lowAfter d (Send a r) = keptLow d
+lowAfter d (Receive a) = lowAfterRead d (ownOf d a) (d .pointer)
+lowAfter d (Convert local high low) = keptLow d
+lowAfter d (Open local) = keptLow d
+lowAfter d PowerOn = (0, false)
+
 -- ---- acknowledged, and a conversion taken
 
 -- P7, P9: ALERT pulled and BF D0 = 0: the mask, configuration D7, is 0 and a bit of 7B is set in status
@@ -219,13 +242,14 @@ settingAfter d PowerOn q = startByte (d .variant) q
 
 -- ---- the byte read
 
--- the byte of a register in R: 00 local, 01 and 10 the latest remote reading, 02 status, FE manufacturer, FF die revision, else a setting
+-- the byte of a register in R: 00 local, 01 the latest remote reading's high byte, 02 status, 10 by request a the kept low byte, with nothing
+-- kept the latest, FE manufacturer, FF die revision, else a setting
 abbrev pub shownAt : Device → ℕ → ℕ → ℕ → ℕ
 shownAt d manufacturer revision r =
     cond (eqb r 0x00) (d .sensed .local)
     (cond (eqb r 0x01) (highByteOf (d .sensed .remote))
     (cond (eqb r 0x02) (d .status)
-    (cond (eqb r 0x10) (lowByteOf (d .sensed .remote))
+    (cond (eqb r 0x10) (cond (d .lowkept) (d .low) (lowByteOf (d .sensed .remote)))
     (cond (eqb r 0xFE) manufacturer
     (cond (eqb r 0xFF) revision
     (byteAt d r))))))

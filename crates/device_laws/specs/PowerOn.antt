@@ -20,6 +20,9 @@ pub record PoweredOn (before : Device) (o : Outcome) : Type 0 where
   pub pointer : o .device .pointer ≡ 0x00
   pub pending : o .device .pending ≡ false
   pub status : o .device .status ≡ 0
+  -- request a: no low byte kept
+  pub low : o .device .low ≡ 0
+  pub lowkept : o .device .lowkept ≡ false
   pub local : o .device .sensed .local ≡ 0
   pub remote : o .device .sensed .remote ≡ pos 0
   pub live : o .device .sensed .live ≡ 0

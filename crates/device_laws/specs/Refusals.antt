@@ -1,11 +1,11 @@
 -- Steps that refuse: 8 before 4, answer bytes 0, the device as it was.
 -- Assumes nothing.
 use mathlib.Core.Path.{_≡_, refl}
-use mathlib.Core.Bool.{true}
+use mathlib.Core.Bool.{true, false}
 use mathlib.Core.List.{[], _∷_}
 use Rattle.registers.specs.Page.{powerOnOf}
 use Rattle.device.specs.declared.Event.the-variants.{Write, Read, Send, Receive, Convert, PowerOn}
-use Rattle.device.specs.Bus.{setUpOf, poweredOf}
+use Rattle.device.specs.Bus.{setUpOf, readOutOf, poweredOf}
 use Rattle.device.specs.Opened.{deviceOpened}
 use Rattle.device.specs.Step.{refusedOf, stepOf}
 use Rattle.device.specs.declared.Device.{Device}
@@ -14,10 +14,19 @@ use Rattle.device.specs.declared.Device.{Device}
 abbrev stray : Device
 stray = setUpOf (poweredOf 1) 0x00 true (powerOnOf 1)
 
+-- request a: a kept byte that is no multiple of 32; one that is, with none kept
+abbrev sixteenths : Device
+sixteenths = readOutOf (poweredOf 1) 0x00 0x10 true
+
+abbrev unkept : Device
+unkept = readOutOf (poweredOf 1) 0x00 0x20 false
+
 pub refusals :
     stepOf (poweredOf 0) PowerOn
     ∷ stepOf (poweredOf 4) (Read 0x80 0x00)
     ∷ stepOf stray (Receive 0x80)
+    ∷ stepOf sixteenths (Read 0x4C 0x10)
+    ∷ stepOf unkept PowerOn
     ∷ stepOf (poweredOf 1) (Write 0x80 0x09 0xFF)
     ∷ stepOf (poweredOf 1) (Read 0xFF 0x00)
     ∷ stepOf (poweredOf 2) (Send 0x80 0x00)
@@ -27,6 +36,8 @@ pub refusals :
     ≡ refusedOf (poweredOf 0) 8
     ∷ refusedOf (poweredOf 4) 8
     ∷ refusedOf stray 8
+    ∷ refusedOf sixteenths 8
+    ∷ refusedOf unkept 8
     ∷ refusedOf (poweredOf 1) 4
     ∷ refusedOf (poweredOf 1) 4
     ∷ refusedOf (poweredOf 2) 4

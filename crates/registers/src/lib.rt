@@ -42,7 +42,13 @@ pub const FILTER_ALERT: usize = 13;
 
 pub const ONE_SHOT: u8 = 0x0F;
 
+pub const LOCAL: u8 = 0x00;
+
+pub const REMOTE: u8 = 0x01;
+
 pub const STATUS: u8 = 0x02;
+
+pub const REMOTE_PART: u8 = 0x10;
 
 // Bit `reg` of a set of registers below 40.
 fn listed(set: u64, reg: u8) -> bool

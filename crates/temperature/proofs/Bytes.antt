@@ -3,9 +3,12 @@
 -- comes back from its two bytes.
 -- Assumes nothing.
 use mathlib.Core.Path.{_≡_, refl}
+use mathlib.Core.Bool.{true}
 use Prim.Native.Nat.{ℕ, _+_, _*_, _/_, _%_, _<_}
 use native.Mathlib.Omega.{arith}
-use lib.IntN.{pos, _-ℤ_}
+use lib.IntN.{ℤ, pos, negsuc, negℤ}
+use lib.Signed.{leZ}
+use borrow.Author.Tests.{leb-true}
 use Rattle.temperature.specs.Temperature.{degreesOf, eighthsOf, highByteOf, lowByteOf}
 use Rattle.laws.proofs.Tables.{agree}
 
@@ -25,7 +28,16 @@ bytes-back high k h j =
     let below : high * 8 + k < 2048 = omega arith in
     (rw (whole, part) at (pairs-high (high * 8 + k) below), rw (whole, part) at (pairs-low (high * 8 + k) below))
 
--- the 2,048 readings, counted from -1024
-pub eighths-back : (n : ℕ) → n < 2048 → eighthsOf (highByteOf (pos n -ℤ pos 1024)) (lowByteOf (pos n -ℤ pos 1024)) ≡ pos n -ℤ pos 1024
+-- the 1,024 readings at or above 0, and the 1,024 below
+readings-up : (n : ℕ) → n < 1024 → eighthsOf (highByteOf (pos n)) (lowByteOf (pos n)) ≡ pos n
 unfolding eighthsOf degreesOf
-eighths-back = agree (λ n. eighthsOf (highByteOf (pos n -ℤ pos 1024)) (lowByteOf (pos n -ℤ pos 1024))) (λ n. pos n -ℤ pos 1024) 2048 refl
+readings-up = agree (λ n. eighthsOf (highByteOf (pos n)) (lowByteOf (pos n))) (λ n. pos n) 1024 refl
+
+readings-down : (n : ℕ) → n < 1024 → eighthsOf (highByteOf (negsuc n)) (lowByteOf (negsuc n)) ≡ negsuc n
+unfolding eighthsOf degreesOf
+readings-down = agree (λ n. eighthsOf (highByteOf (negsuc n)) (lowByteOf (negsuc n))) (λ n. negsuc n) 1024 refl
+
+-- -1024 to 1023
+pub eighths-back : (t : ℤ) → leZ (negℤ (pos 1024)) t ≡ true → leZ t (pos 1023) ≡ true → eighthsOf (highByteOf t) (lowByteOf t) ≡ t
+eighths-back (pos n) under over = readings-up n (omega (arith, leb-true n 1023 over))
+eighths-back (negsuc n) under over = readings-down n (omega (arith, leb-true n 1023 under))

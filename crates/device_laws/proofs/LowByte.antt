@@ -1,0 +1,174 @@
+-- Request a. `untorn`: after a read of 01, whatever comes between but another read of 01 or 10 or power-on, a read of 10 gives the low byte of
+-- the reading whose high byte was read. `unmoved`: nothing else keeps a low byte or lets one go. `latest`: with nothing kept, 10 is the low byte of
+-- the latest reading. `by-pointer`: a receive is a read of the register at the pointer.
+-- Assumes nothing.
+use mathlib.Core.Path.{_≡_, refl, sym, ap, _∙_}
+use mathlib.Core.Bool.{Bool, true, false, cond, _||_, _&&_, and-true}
+use mathlib.Core.List.{List, [], _∷_}
+use Prim.Native.Nat.{ℕ}
+use lib.Dec.{eqb, leb}
+use borrow.Author.Tests.{eqb-true, eq-eqb}
+use Rattle.laws.proofs.Choices.{clash, and-left, and-right}
+use Rattle.temperature.specs.Temperature.{highByteOf, lowByteOf}
+use Rattle.temperature.proofs.Bytes.{eighths-back}
+use Rattle.registers.specs.Page.{R, among}
+use Rattle.device.specs.declared.Device.{Device}
+use Rattle.device.specs.declared.Stepped.{Stepped}
+use Rattle.device.specs.declared.Event.{Event}
+use Rattle.device.specs.declared.Event.the-variants.{Write, Read, Send, Receive, Convert, Open, PowerOn}
+use Rattle.device.specs.Ranges.{variantOf, rangedOf, operandsOf}
+use Rattle.device.specs.Step.{effectOf, steppedOf, stepOf}
+use Rattle.device.specs.Run.{afterOf}
+use Rattle.device.proofs.InRange.{named, kept}
+use Rattle.device.proofs.Steps.{step-effect, step-ind}
+use Rattle.device.proofs.Untouched.{same-variant}
+use Rattle.device_laws.specs.Moves.{ownOf, keptLow, lowAfterRead, lowAfter, registerByte, byteRead}
+use Rattle.device_laws.specs.LowByte.{readsOf, movesLow, Between, OneReading}
+use Rattle.device_laws.proofs.Moves.{low-moves, acknowledged-exactly}
+use Rattle.device_laws.proofs.Registers.{byte-exactly}
+
+-- ---- reads
+
+own-address : (d : Device) (a : ℕ) → ownOf d a ≡ true → leb a 0x7F ≡ true
+own-address d a h = ap (λ (x : ℕ). leb x 0x7F) (eqb-true a _ h) ∙ split (eqb (d .variant) 1)
+  where
+    split : (t : Bool) → leb (cond t 0x4C 0x4D) 0x7F ≡ true
+    split true = refl
+    split false = refl
+
+reads-operands : (d : Device) (e : Event) (r : ℕ) → readsOf d e r ≡ true → operandsOf e ≡ true
+unfolding operandsOf
+reads-operands d (Write a w v) r h = clash h
+reads-operands d (Read a s) r h = own-address d a (and-left (ownOf d a) (eqb s r) h)
+reads-operands d (Send a s) r h = clash h
+reads-operands d (Receive a) r h = own-address d a (and-left (ownOf d a) (eqb (d .pointer) r) h)
+reads-operands d (Convert local high low) r h = clash h
+reads-operands d (Open local) r h = clash h
+reads-operands d PowerOn r h = clash h
+
+-- the byte of such a read is the register's
+reads-byte : (d : Device) (e : Event) (r : ℕ) → among r R ≡ true → readsOf d e r ≡ true → byteRead d e ≡ registerByte d r
+reads-byte d e r m = at-event e
+  where
+    known : (own inside : Bool) (x other : ℕ) → own ≡ true → inside ≡ true → cond (own && inside) x other ≡ x
+    known true true x other h i = refl
+    known true false x other h i = clash i
+    known false inside x other h i = clash h
+
+    chosen : (own : Bool) (s other : ℕ) → (own && eqb s r) ≡ true → cond (own && among s R) (registerByte d s) other ≡ registerByte d r
+    chosen own s other h =
+        ap (λ (x : ℕ). cond (own && among x R) (registerByte d x) other) (eqb-true s r (and-right own (eqb s r) h))
+        ∙ known own (among r R) (registerByte d r) other (and-left own (eqb s r) h) m
+
+    at-event : (e : Event) → readsOf d e r ≡ true → byteRead d e ≡ registerByte d r
+    at-event (Write a w v) h = clash h
+    at-event (Read a s) h = chosen (ownOf d a) s _ h
+    at-event (Send a s) h = clash h
+    at-event (Receive a) h = chosen (ownOf d a) (d .pointer) _ h
+    at-event (Convert local high low) h = clash h
+    at-event (Open local) h = clash h
+    at-event PowerOn h = clash h
+
+-- P10: it is acknowledged, and every read byte that is acknowledged is such a read
+pub acknowledged-reads : (d : Device) (a r : ℕ) → effectOf d (Read a r) .acknowledged ≡ (readsOf d (Read a r) r && among r R)
+acknowledged-reads d a r = acknowledged-exactly d (Read a r) ∙ ap (λ (t : Bool). t && among r R) (sym (itself (ownOf d a)))
+  where
+    itself : (own : Bool) → (own && eqb r r) ≡ own
+    itself own = rw (eq-eqb r r refl, and-true own)
+
+-- a receive, the alert response apart, is a read of the register at the pointer, with the same answers and the same device after it
+pub by-pointer : (d : Device) (a : ℕ) → eqb a 0x0C ≡ false → stepOf d (Receive a) ≡ stepOf d (Read a (d .pointer))
+unfolding stepOf operandsOf effectOf
+by-pointer d a h = rw h
+
+-- ---- what moves the kept low byte
+
+-- a read of 01, whatever was kept
+keeps : (d : Device) (e : Event) → readsOf d e 0x01 ≡ true → lowAfter d e ≡ (lowByteOf (d .sensed .remote), true)
+keeps d (Write a w v) h = clash h
+keeps d (Read a r) h = rw h
+keeps d (Send a r) h = clash h
+keeps d (Receive a) h = rw h
+keeps d (Convert local high low) h = clash h
+keeps d (Open local) h = clash h
+keeps d PowerOn h = clash h
+
+leaves : (d : Device) (e : Event) → movesLow d e ≡ false → lowAfter d e ≡ keptLow d
+leaves d e = at-event e
+  where
+    neither : (x y z : Bool) (k : ℕ × Bool) → (x || y || z) ≡ false → cond x k (cond y (0, false) (keptLow d)) ≡ keptLow d
+    neither true y z k h = clash (sym h)
+    neither false true z k h = clash (sym h)
+    neither false false z k h = refl
+
+    read : (own : Bool) (r : ℕ) → (own && eqb r 0x01 || own && eqb r 0x10 || false) ≡ false → lowAfterRead d own r ≡ keptLow d
+    read own r h = neither (own && eqb r 0x01) (own && eqb r 0x10) false _ h
+
+    at-event : (e : Event) → movesLow d e ≡ false → lowAfter d e ≡ keptLow d
+    at-event (Write a w v) h = refl
+    at-event (Read a r) h = read (ownOf d a) r h
+    at-event (Send a r) h = refl
+    at-event (Receive a) h = read (ownOf d a) (d .pointer) h
+    at-event (Convert local high low) h = refl
+    at-event (Open local) h = refl
+    at-event PowerOn h = clash (sym h)
+
+-- nothing but reads of 01 and of 10 and power-on keeps a low byte or lets one go; no refused event does
+pub unmoved : (d : Device) (e : Event) → movesLow d e ≡ false → keptLow (stepOf d e .device) ≡ keptLow d
+unmoved d e h = step-ind (λ (n : Device). keptLow n ≡ keptLow d) d e refl (low-moves d e ∙ leaves d e h)
+
+pub unmoved-between : (d : Device) (es : List Event) → Between d es → keptLow (afterOf d es) ≡ keptLow d
+unmoved-between d [] b = refl
+unmoved-between d (e ∷ es) b = unmoved-between (stepOf d e .device) es (b .1) ∙ unmoved d e (b .0)
+
+-- ---- a pair
+
+-- a variant, and in its ranges
+abbrev Sound : Device → Type 0
+Sound d = (variantOf (d .variant) ≡ true) × (rangedOf d ≡ true)
+
+sound-step : (d : Device) (e : Event) → Sound d → Sound (stepOf d e .device)
+sound-step d e s = step-ind Sound d e s (ap variantOf (same-variant d e) ∙ s .0, kept d e (s .1))
+
+sound-after : (d : Device) (es : List Event) → Sound d → Sound (afterOf d es)
+sound-after d [] s = s
+sound-after d (e ∷ es) s = sound-after (stepOf d e .device) es (sound-step d e s)
+
+module _ (d : Device) (s : Sound d) (e : Event) where
+  read-step : (r : ℕ) → readsOf d e r ≡ true → stepOf d e ≡ steppedOf (effectOf d e)
+  read-step r h = step-effect d e (s .0) (s .1) (reads-operands d e r h)
+
+  read-second : (r : ℕ) → among r R ≡ true → readsOf d e r ≡ true → stepOf d e .second ≡ registerByte d r
+  read-second r m h = ap (λ (t : Stepped). t .second) (read-step r h) ∙ byte-exactly d e (s .0) ∙ reads-byte d e r m h
+
+  read-code : (r : ℕ) → readsOf d e r ≡ true → stepOf d e .code ≡ 0
+  read-code r h = ap (λ (t : Stepped). t .code) (read-step r h)
+
+  read-keeps : readsOf d e 0x01 ≡ true → keptLow (stepOf d e .device) ≡ (lowByteOf (d .sensed .remote), true)
+  read-keeps h = ap (λ (t : Stepped). keptLow (t .device)) (read-step 0x01 h) ∙ low-moves d e ∙ keeps d e h
+
+-- a read of 10 with nothing kept: the low byte of the latest reading
+pub latest : (d : Device) (e : Event) → variantOf (d .variant) ≡ true → rangedOf d ≡ true
+    → readsOf d e 0x10 ≡ true → d .lowkept ≡ false → stepOf d e .second ≡ lowByteOf (d .sensed .remote)
+latest d e variant ranged h none = read-second d (variant, ranged) e 0x10 refl h ∙ rw none
+
+-- the device may hold a kept byte already: a second read of 01 keeps anew
+pub untorn : (d : Device) (first : Event) (between : List Event) (last : Event) → variantOf (d .variant) ≡ true → rangedOf d ≡ true
+    → readsOf d first 0x01 ≡ true → Between (stepOf d first .device) between → readsOf (afterOf d (first ∷ between)) last 0x10 ≡ true
+    → OneReading (d .sensed .remote) (stepOf d first) (stepOf (afterOf d (first ∷ between)) last)
+untorn d first between last variant ranged begins b ends =
+    let s : Sound d = (variant, ranged) in
+    let n = afterOf d (first ∷ between) in
+    let t : Sound n = sound-after d (first ∷ between) s in
+    let reading = d .sensed .remote in
+    let low-kept : keptLow n ≡ (lowByteOf reading, true) = unmoved-between (stepOf d first .device) between b ∙ read-keeps d s first begins in
+    let high-read : stepOf d first .second ≡ highByteOf reading = read-second d s first 0x01 refl begins in
+    let low-read : stepOf n last .second ≡ lowByteOf reading =
+    read-second n t last 0x10 refl ends ∙ ap (λ (k : ℕ × Bool). cond (k .1) (k .0) (lowByteOf (n .sensed .remote))) low-kept in
+    record {
+      first-code = read-code d s first 0x01 begins;
+      last-code = read-code n t last 0x10 ends;
+      high = high-read;
+      low = low-read;
+      eighths = rw (high-read, low-read) (eighths-back reading (named d ranged .under) (named d ranged .over));
+    }
