@@ -1,7 +1,7 @@
 """Streams of calls and their results, taken apart and put in words. The format stands at the head of second/replay.c."""
 
-DEVICE_BYTES = 25
-READER_BYTES = 39
+DEVICE_BYTES = 27
+READER_BYTES = 41
 HEADER_BYTES = 6
 RECORD_BYTES = 4
 
@@ -15,7 +15,7 @@ DEVICE_FIELDS = [
     ("live byte", 1), ("fault count", 1), ("local latch", 1), ("remote latch", 1), ("configuration 09", 1), ("rate 0A", 1),
     ("local high 0B", 1), ("local low 0C", 1), ("remote high 0D", 1), ("remote low 0E", 1), ("offset 11", 1), ("offset 12", 1),
     ("remote high 13", 1), ("remote low 14", 1), ("remote T_CRIT 19", 1), ("local T_CRIT 20", 1), ("hysteresis 21", 1),
-    ("filter and alert BF", 1),
+    ("filter and alert BF", 1), ("kept low byte", 1), ("low byte is kept", 1),
 ]
 READER_FIELDS = [
     ("header bytes taken", 1), ("record count", 4), ("records done", 4), ("record bytes carried", 1), ("carried bytes", 3),

@@ -6,7 +6,7 @@
 #include <stdlib.h>
 #include <string.h>
 
-enum { DEVICE_BYTES = 25, READER_BYTES = 39, LENT_MOST = 1000000, GUARD = 64, FILL = 0xA5 };
+enum { DEVICE_BYTES = 27, READER_BYTES = 41, LENT_MOST = 1000000, GUARD = 64, FILL = 0xA5 };
 
 static int command;                /* the call being answered */
 static unsigned long long taken;   /* bytes of the stream taken so far */
@@ -115,6 +115,8 @@ static lm89_device device_of(const uint8_t *dump)
     device.sensed.llatch = dump[9] != 0;
     device.sensed.rlatch = dump[10] != 0;
     memcpy(device.settings, dump + 11, LM89_SETTINGS);
+    device.low = dump[25];
+    device.lowkept = dump[26] != 0;
     return device;
 }
 
@@ -127,6 +129,8 @@ static void put_device(const lm89_device *device)
         device->sensed.llatch, device->sensed.rlatch
     };
     memcpy(dump + 11, device->settings, LM89_SETTINGS);
+    dump[25] = device->low;
+    dump[26] = device->lowkept;
     put(dump, sizeof dump);
 }
 

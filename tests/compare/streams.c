@@ -15,7 +15,7 @@
 #include <stdlib.h>
 #include <string.h>
 
-enum { SETTINGS = 14, DEVICE_BYTES = 25, READER_BYTES = 39, HEADER_BYTES = 6, RECORD_BYTES = 4 };
+enum { SETTINGS = 14, DEVICE_BYTES = 27, READER_BYTES = 41, HEADER_BYTES = 6, RECORD_BYTES = 4 };
 
 enum { WRITE = 1, READ, SEND, RECEIVE, CONVERSION, OPEN_DIODE, POWER_ON };
 
@@ -38,13 +38,14 @@ static const uint8_t only_writable[] = { 0x09, 0x0A, 0x0B, 0x0C, 0x0D, 0x0E, 0x0
 static const uint8_t outside[] = { 0x15, 0x18, 0x1A, 0x1F, 0x22, 0x30, 0x80, 0xB0, 0xBE, 0xC0, 0xFD };
 static const uint8_t unknown_kinds[] = { 0, 8, 9, 0x80, 0x81, 0xFF };
 
-enum { ONE_SHOT = 0x0F, STATUS = 0x02, ALERT_RESPONSE = 0x0C };
+enum { HIGH_BYTE = 0x01, STATUS = 0x02, ONE_SHOT = 0x0F, LOW_BYTE = 0x10, ALERT_RESPONSE = 0x0C };
 enum { ALERT_MASK = 0x80, STANDBY = 0x40, FAULT_QUEUE = 0x01, COMPARATOR = 0x01 };
 enum { REMOTE_LEAST = -1024, REMOTE_MOST = 1023 };
+enum { LOW_STEP = 32, LOW_BYTES = 8 }; /* the low bytes of readings: so many, so far apart */
 
 /* Places in a device dump and in a reader dump. */
 enum { AT_VARIANT, AT_POINTER, AT_PENDING, AT_STATUS, AT_LOCAL, AT_REMOTE, AT_LIVE = 7, AT_FAULTS, AT_LOCAL_LATCH,
-       AT_REMOTE_LATCH, AT_SETTINGS };
+       AT_REMOTE_LATCH, AT_SETTINGS, AT_LOW = AT_SETTINGS + SETTINGS, AT_LOW_KEPT };
 enum { AT_HEADER, AT_COUNT, AT_DONE = 5, AT_CARRIED = 9, AT_CARRY, AT_HELD = 13, AT_DEVICE };
 
 #define COUNT_OF(table) (sizeof(table) / sizeof((table)[0]))
@@ -216,6 +217,25 @@ static void plan_set(bench *b, unsigned place, uint8_t value)
     b->set[place] = value & kept_bits[place];
 }
 
+/* An event on the bus that concerns this register; a receive does by the pointer, which is sent before it. */
+static void plan_on_bus(bench *b, uint8_t kind, uint8_t address, uint8_t number)
+{
+    if (kind == RECEIVE) {
+        plan(b, SEND, own_address(b), number, 0);
+        plan(b, RECEIVE, address, 0, 0);
+    } else {
+        plan(b, kind, address, number, kind == WRITE ? any_byte() : 0);
+    }
+}
+
+/* The two kinds that read a register. */
+static const uint8_t ways[] = { READ, RECEIVE };
+
+static void plan_read(bench *b, uint8_t way, uint8_t number)
+{
+    plan_on_bus(b, way, own_address(b), number);
+}
+
 static int degrees(uint8_t byte)
 {
     return byte < 128 ? byte : byte - 256;
@@ -361,12 +381,7 @@ static void scene_status(bench *b)
     if (one_in(2))
         plan_set(b, CONFIGURATION, b->set[CONFIGURATION] & (uint8_t)~ALERT_MASK);
     scene_near(b);
-    if (one_in(2)) {
-        plan(b, READ, own_address(b), STATUS, 0);
-    } else {
-        plan(b, SEND, own_address(b), STATUS, 0);
-        plan(b, RECEIVE, own_address(b), 0, 0);
-    }
+    plan_read(b, ONE_OF(ways), STATUS);
     if (one_in(3))
         plan(b, RECEIVE, own_address(b), 0, 0);
     plan(b, READ, own_address(b), 0x03, 0);
@@ -468,7 +483,7 @@ static void scene_offset(bench *b)
     }
     record sample = any_conversion();
     plan(b, sample.kind, sample.a, sample.b, sample.c);
-    plan(b, READ, own_address(b), one_in(2) ? 0x01 : 0x10, 0);
+    plan(b, READ, own_address(b), one_in(2) ? HIGH_BYTE : LOW_BYTE, 0);
     if (one_in(2))
         plan_set(b, OFFSET, 0);
 }
@@ -483,7 +498,7 @@ static void scene_open(bench *b)
     plan(b, OPEN_DIODE, local_near(b), 0, 0);
     if (one_in(2))
         plan(b, OPEN_DIODE, local_near(b), 0, 0);
-    plan(b, READ, own_address(b), one_in(2) ? 0x01 : STATUS, 0);
+    plan(b, READ, own_address(b), one_in(2) ? HIGH_BYTE : STATUS, 0);
 }
 
 /* Limits so wide that an open diode sets no bit but OPEN, if any; then status and alert response. */
@@ -528,13 +543,135 @@ static void scene_power_on(bench *b)
     power_on_settings(b->set, b->variant);
 }
 
+/* ---- Request a: the low byte kept at a read of 01, and read at 10 --------- */
+
+/* What may stand between a read of 01 and one of 10: nothing, which is sort 0; one of the plain events; or any kind of event on the
+ * bus, at the device's address, at nobody's or at that of the alert response, with 01, with 10 or with any register. */
+enum { PLAIN_SORTS = 8, BUS_KINDS = 4, ADDRESSES = 3, REGISTERS = 3 };
+enum { SORTS = PLAIN_SORTS + BUS_KINDS * ADDRESSES * REGISTERS };
+
+static void plan_plain(bench *b, unsigned sort)
+{
+    switch (sort) {
+    case 1: plan_remote(b, remote_near(b)); break;
+    case 2: plan(b, OPEN_DIODE, local_near(b), 0, 0); break;
+    case 3: scene_power_on(b); break;
+    case 4: scene_write(b); break;
+    case 5: plan(b, WRITE, own_address(b), ONE_SHOT, any_byte()); break;
+    case 6: plan_read(b, READ, STATUS); break;
+    case 7: plan_read(b, RECEIVE, STATUS); break;
+    default: break;
+    }
+}
+
+static void plan_between(bench *b, unsigned sort)
+{
+    uint8_t own = own_address(b);
+    uint8_t nobody[] = { own ^ 1, 0x00, 0x7F, own ^ 0x40 };
+    uint8_t addresses[ADDRESSES] = { own, ONE_OF(nobody), ALERT_RESPONSE };
+    uint8_t registers[REGISTERS] = { HIGH_BYTE, LOW_BYTE, any_register() };
+    if (sort < PLAIN_SORTS) {
+        plan_plain(b, sort);
+    } else {
+        unsigned on_bus = sort - PLAIN_SORTS;
+        uint8_t kind = (uint8_t)(WRITE + on_bus / REGISTERS % BUS_KINDS);
+        plan_on_bus(b, kind, addresses[on_bus / REGISTERS / BUS_KINDS], registers[on_bus % REGISTERS]);
+    }
+}
+
+/* 01 read, conversions and in some cases another event, then 10 read once or twice. */
+static void scene_pair(bench *b)
+{
+    plan_read(b, ONE_OF(ways), HIGH_BYTE);
+    scene_near(b);
+    if (one_in(2))
+        plan_between(b, below(SORTS));
+    plan_read(b, ONE_OF(ways), LOW_BYTE);
+    if (one_in(2))
+        plan_read(b, ONE_OF(ways), LOW_BYTE);
+}
+
+/* How the event between finds the device: ALERT pulled, ALERT masked, in standby with a one-shot asked for, and without. */
+enum { PULLED, MASKED, ASKED, ASLEEP, SETUPS };
+
+/* A row of events: 01 is read, or 10 to have nothing kept; then comes an event of some sort; then 10 is read. */
+typedef struct {
+    unsigned sort, setup;
+    uint8_t first; /* the register that is read first */
+    uint8_t first_way, second_way;
+} row;
+
+static void every_row(void (*take)(row))
+{
+    for (unsigned sort = 0; sort < SORTS; sort++)
+        for (unsigned setup = 0; setup < SETUPS; setup++)
+            for (size_t i = 0; i < COUNT_OF(ways); i++) {
+                take((row){ sort, setup, HIGH_BYTE, READ, ways[i] });
+                take((row){ sort, setup, HIGH_BYTE, RECEIVE, ways[i] });
+                take((row){ sort, setup, LOW_BYTE, READ, ways[i] });
+            }
+}
+
+static void plan_setup(bench *b, unsigned setup)
+{
+    uint8_t configuration = setup == PULLED ? 0 : setup == MASKED ? ALERT_MASK : STANDBY;
+    plan_set(b, OFFSET, 0);
+    plan_set(b, LOCAL_HIGH, 0x80);
+    plan_set(b, ALERT_MODE, 0);
+    plan_set(b, CONFIGURATION, configuration);
+}
+
+/* A conversion that is taken, warmer than the local high limit of the set-up, with this low byte. */
+static void plan_low_byte(bench *b, uint8_t low)
+{
+    int degree = (int)below(200) - 100;
+    uint8_t local = below(100);
+    if ((b->set[CONFIGURATION] & STANDBY) != 0)
+        plan(b, WRITE, own_address(b), ONE_SHOT, any_byte());
+    plan_readings(b, local, 8 * degree + low / LOW_STEP);
+}
+
+static uint8_t any_low_byte(void)
+{
+    return (uint8_t)(LOW_STEP * below(LOW_BYTES));
+}
+
+/* The records of a row that stand between its two reads: from one, up to the one that reads 10. */
+typedef struct {
+    unsigned from, to;
+} stretch;
+
+static stretch plan_row(bench *b, row r)
+{
+    stretch between;
+    plan_setup(b, r.setup);
+    plan_low_byte(b, any_low_byte());
+    plan_read(b, r.first_way, r.first);
+    between.from = b->planned;
+    if (!one_in(4))
+        plan_low_byte(b, any_low_byte());
+    if (r.setup == ASKED)
+        plan(b, WRITE, own_address(b), ONE_SHOT, 0);
+    plan_between(b, r.sort);
+    if (r.setup == ASLEEP)
+        plan_plain(b, 1 + below(2)); /* a conversion that is not taken */
+    else if (!one_in(4))
+        plan_low_byte(b, any_low_byte());
+    plan_read(b, r.second_way, LOW_BYTE);
+    between.to = b->planned - 1;
+    plan_read(b, ONE_OF(ways), LOW_BYTE);
+    return between;
+}
+
+/* ---- What comes next ---------------------------------------------------- */
+
 static void plan_scene(bench *b)
 {
     static void (*const scenes[])(bench *) = {
         scene_near, scene_near, scene_any_limit, scene_close_limits, scene_fault_run, scene_fault_run, scene_critical,
         scene_critical, scene_status, scene_alert_response, scene_alert_mode, scene_standby, scene_one_shot_awake,
         scene_pointer, scene_other_address, scene_offset, scene_open, scene_open_alone, scene_configuration, scene_read,
-        scene_write
+        scene_write, scene_pair
     };
     b->planned = 0;
     b->played = 0;
@@ -704,6 +841,9 @@ static void random_device(uint8_t *dump)
     dump[AT_FAULTS] = (uint8_t)below(4);
     dump[AT_LOCAL_LATCH] = (uint8_t)below(2);
     dump[AT_REMOTE_LATCH] = (uint8_t)below(2);
+    dump[AT_LOW_KEPT] = (uint8_t)below(2);
+    if (dump[AT_LOW_KEPT])
+        dump[AT_LOW] = any_low_byte();
     random_settings(dump + AT_SETTINGS);
     if ((dump[AT_SETTINGS + CONFIGURATION] & STANDBY) != 0)
         dump[AT_PENDING] = (uint8_t)below(2);
@@ -730,6 +870,19 @@ static void step(record event)
     call_step(event);
 }
 
+/* A row of request a, from a random state. */
+static void step_row(row r)
+{
+    uint8_t dump[DEVICE_BYTES];
+    bench b;
+    random_device(dump);
+    call_device(dump);
+    aim_at(&b, dump);
+    plan_row(&b, r);
+    while (b.played < b.planned)
+        step(b.plan[b.played++]);
+}
+
 static void theme_device(void)
 {
     uint8_t dump[DEVICE_BYTES];
@@ -747,6 +900,7 @@ static void theme_device(void)
         for (unsigned steps = 1 + below(4); steps > 0; steps--)
             step(next_record(&b));
     }
+    every_row(step_row);
 }
 
 /* ---- Ranges of a device ------------------------------------------------- */
@@ -781,6 +935,37 @@ static void with_pending(const uint8_t *dump, device_taker take)
     take(changed);
 }
 
+/* A low byte, kept and with none kept; the pointer stands at 01, at 10 or elsewhere. */
+static void with_low(const uint8_t *dump, unsigned low, device_taker take)
+{
+    static const uint8_t pointers[] = { HIGH_BYTE, LOW_BYTE, STATUS };
+    uint8_t changed[DEVICE_BYTES];
+    memcpy(changed, dump, DEVICE_BYTES);
+    changed[AT_LOW] = (uint8_t)low;
+    for (unsigned kept = 0; kept < 2; kept++) {
+        changed[AT_LOW_KEPT] = (uint8_t)kept;
+        changed[AT_POINTER] = ONE_OF(pointers);
+        take(changed);
+    }
+}
+
+/* The multiples of 32, one off them on either side, and 16. */
+static void low_edges(const uint8_t *dump, device_taker take)
+{
+    for (unsigned low = 0; low < 256; low += LOW_STEP) {
+        with_low(dump, low, take);
+        with_low(dump, low + 1, take);
+        with_low(dump, low + LOW_STEP - 1, take);
+    }
+    with_low(dump, LOW_STEP / 2, take);
+}
+
+static void every_low(const uint8_t *dump, device_taker take)
+{
+    for (unsigned low = 0; low < 256; low++)
+        with_low(dump, low, take);
+}
+
 static void settings_edges(const uint8_t *dump, device_taker take)
 {
     for (unsigned i = 0; i < SETTINGS; i++) {
@@ -812,6 +997,7 @@ static void device_edges(const uint8_t *dump, device_taker take)
     for (unsigned pointer = 0; pointer < 256; pointer++)
         with_byte(dump, AT_POINTER, (uint8_t)pointer, take);
     with_pending(dump, take);
+    low_edges(dump, take);
     settings_edges(dump, take);
 }
 
@@ -873,6 +1059,7 @@ static void theme_device_ranges(void)
         every_register(dump);
         every_address(dump);
     }
+    every_low(dump, step_on);
     call_device(dump);
     every_kind(call_step);
     for (unsigned i = 0; i < 8; i++) {
@@ -910,18 +1097,47 @@ static record record_at(const uint8_t *bytes)
     return (record){ bytes[0], bytes[1], bytes[2], bytes[3] };
 }
 
+/* A capture of so many records, to be filled in. */
+static void begin_capture(capture *c, uint8_t variant, size_t records)
+{
+    c->bytes[0] = 1;
+    c->bytes[1] = variant;
+    store(c->bytes + 2, (uint32_t)records, 4);
+    c->length = HEADER_BYTES + RECORD_BYTES * records;
+    c->records = records;
+    c->refused = c->length;
+}
+
 static void make_capture(capture *c, size_t records)
 {
     bench b;
     start(&b, (uint8_t)(1 + below(3)));
-    c->bytes[0] = 1;
-    c->bytes[1] = b.variant;
-    store(c->bytes + 2, (uint32_t)records, 4);
+    begin_capture(c, b.variant, records);
     for (size_t i = 0; i < records; i++)
         put_record(c->bytes + HEADER_BYTES + RECORD_BYTES * i, next_record(&b));
-    c->length = HEADER_BYTES + RECORD_BYTES * records;
-    c->records = records;
-    c->refused = c->length;
+}
+
+/* A row of request a as a capture, for the device of this bench. */
+static stretch put_row(capture *c, bench *b, row r)
+{
+    stretch between = plan_row(b, r);
+    begin_capture(c, b->variant, b->planned);
+    for (size_t i = 0; i < b->planned; i++)
+        put_record(c->bytes + HEADER_BYTES + RECORD_BYTES * i, b->plan[i]);
+    return between;
+}
+
+static stretch make_row(capture *c, row r)
+{
+    bench b;
+    start(&b, (uint8_t)(1 + below(3)));
+    return put_row(c, &b, r);
+}
+
+/* A place between the two reads of a row; the last ones are within the record that reads 10. */
+static size_t cut_between(stretch between)
+{
+    return HEADER_BYTES + RECORD_BYTES * between.from + below(RECORD_BYTES * (between.to - between.from + 1));
 }
 
 static void refuse_at(capture *c, size_t place)
@@ -994,6 +1210,8 @@ static void damage(capture *c, unsigned sort)
 
 /* ---- The reader -------------------------------------------------------- */
 
+enum { AMPLE_ROOM = 1000 };
+
 static uint32_t any_room(void)
 {
     return one_in(4) ? 6 + below(100) : below(6);
@@ -1056,17 +1274,34 @@ static void feed_in_parts(const capture *c, size_t part_most)
     call_finish();
 }
 
+/* A capture in two parts, the first of this length and lent this room. */
+static void feed_twice(const capture *c, size_t cut, uint32_t first_room, uint32_t second_room)
+{
+    call_fresh();
+    call_feed(c->bytes, cut, first_room);
+    if (one_in(4))
+        call_finish();
+    size_t took = taken(c, 0, cut, first_room);
+    call_feed(c->bytes + took, c->length - took, second_room);
+    call_finish();
+}
+
 static void feed_cut_everywhere(const capture *c)
 {
-    for (size_t cut = 0; cut <= c->length; cut++) {
-        uint32_t room = one_in(2) ? any_room() : 1000;
-        call_fresh();
-        call_feed(c->bytes, cut, 1000);
-        if (one_in(4))
-            call_finish();
-        size_t took = taken(c, 0, cut, 1000);
-        call_feed(c->bytes + took, c->length - took, room);
-        call_finish();
+    for (size_t cut = 0; cut <= c->length; cut++)
+        feed_twice(c, cut, AMPLE_ROOM, one_in(2) ? any_room() : AMPLE_ROOM);
+}
+
+/* A row of request a, cut between its reads, then either in the record that reads 10 or without room for one of the two reads. */
+static void feed_row(row r)
+{
+    stretch between = make_row(&work, r);
+    size_t reads_low = HEADER_BYTES + RECORD_BYTES * between.to;
+    feed_twice(&work, cut_between(between), AMPLE_ROOM, AMPLE_ROOM);
+    switch (below(3)) {
+    case 0: feed_twice(&work, reads_low + below(RECORD_BYTES), AMPLE_ROOM, AMPLE_ROOM); break;
+    case 1: feed_twice(&work, work.length, 2 * between.to, AMPLE_ROOM); break;
+    default: feed_twice(&work, work.length, 2 * (between.from - 1), AMPLE_ROOM); break;
     }
 }
 
@@ -1082,6 +1317,32 @@ static void feed_other_fourth(const capture *c)
         call_feed(&other, 1, any_room());
     }
     call_finish();
+}
+
+/* A reader with so many header bytes taken, this count and these records done. */
+static void plain_reader(uint8_t *dump, unsigned header, uint32_t count, uint32_t done)
+{
+    memset(dump, 0, READER_BYTES);
+    dump[AT_HEADER] = (uint8_t)header;
+    store(dump + AT_COUNT, count, 4);
+    store(dump + AT_DONE, done, 4);
+    if (header >= 2)
+        power_on_device(dump + AT_DEVICE, 1);
+}
+
+/* A row of request a, fed to a reader with a random device. */
+static void feed_row_to_any(row r)
+{
+    uint8_t dump[READER_BYTES];
+    uint8_t device[DEVICE_BYTES];
+    bench b;
+    random_device(device);
+    aim_at(&b, device);
+    put_row(&work, &b, r);
+    plain_reader(dump, HEADER_BYTES, (uint32_t)work.records, 0);
+    memcpy(dump + AT_DEVICE, device, DEVICE_BYTES);
+    call_reader(dump);
+    call_feed(work.bytes + HEADER_BYTES, work.length - HEADER_BYTES, AMPLE_ROOM);
 }
 
 /* A reader within its ranges, somewhere in a capture whose bytes stand in `work`. */
@@ -1141,6 +1402,8 @@ static void theme_reader(void)
     }
     for (unsigned i = 0; i < 12000; i++)
         feed_random_reader();
+    every_row(feed_row);
+    every_row(feed_row_to_any);
 }
 
 /* ---- Ranges of a reader ------------------------------------------------- */
@@ -1154,17 +1417,6 @@ static void try_reader(const uint8_t *dump)
     call_feed(NULL, 0, 3);
     call_feed(bytes + from, sizeof bytes - from, 4);
     call_finish();
-}
-
-/* A reader with so many header bytes taken, this count and these records done. */
-static void plain_reader(uint8_t *dump, unsigned header, uint32_t count, uint32_t done)
-{
-    memset(dump, 0, READER_BYTES);
-    dump[AT_HEADER] = (uint8_t)header;
-    store(dump + AT_COUNT, count, 4);
-    store(dump + AT_DONE, done, 4);
-    if (header >= 2)
-        power_on_device(dump + AT_DEVICE, 1);
 }
 
 static uint8_t framed[READER_BYTES];
@@ -1260,6 +1512,7 @@ static void theme_reader_ranges(void)
         random_device(device);
         device_edges(device, try_framed);
     }
+    every_low(device, try_framed);
 }
 
 /* ---- The writers and the decoder ---------------------------------------- */
@@ -1306,6 +1559,15 @@ static void theme_writer(void)
 
 /* ---- Whole captures ------------------------------------------------------ */
 
+/* A row of request a as a whole capture, some of them cut between the two reads. */
+static void run_row(row r)
+{
+    stretch between = make_row(&work, r);
+    if (one_in(4))
+        work.length = cut_between(between);
+    call_run(work.bytes, work.length, 2 * (uint32_t)work.records);
+}
+
 static void theme_runs(void)
 {
     call_run(NULL, 0, 0);
@@ -1325,6 +1587,14 @@ static void theme_runs(void)
     }
     make_capture(&work, 100000);
     call_run(work.bytes, work.length, 200000);
+    every_row(run_row);
+}
+
+/* One row of request a for each sort of event between its reads. */
+static void run_some_rows(void)
+{
+    for (unsigned sort = 0; sort < SORTS; sort++)
+        run_row((row){ sort, sort % SETUPS, HIGH_BYTE, ONE_OF(ways), ways[sort / SETUPS % 2] });
 }
 
 static void theme_listed(void)
@@ -1336,6 +1606,7 @@ static void theme_listed(void)
     }
     make_capture(&work, 20000);
     call_run(work.bytes, work.length, 40000);
+    run_some_rows();
 }
 
 int main(int argc, char **argv)
