@@ -10,6 +10,7 @@ import pathlib
 import sys
 
 import calls
+import lowbyte
 import ranges
 import steps
 from table import Table
@@ -52,6 +53,7 @@ def need_everything(table):
     need_refusals(table)
     need_places(table)
     steps.need(table)
+    lowbyte.need(table)
     ranges.need(table)
 
 
@@ -109,6 +111,7 @@ class Watcher:
         self.reader_set = set()
         self.no_room = False
         self.steps = steps.Steps(self.table)
+        self.feeds = lowbyte.Feeds(self.table)
         parts = calls.split(stream)
         self.calls = len(parts)
         for command, times in collections.Counter(call[0] for call in parts).items():
@@ -122,11 +125,13 @@ class Watcher:
         self.reader = bytes(calls.READER_BYTES)
         self.reader_set = set()
         self.no_room = False
+        self.feeds.set_reader(self.reader)
 
     def see_set_the_reader(self, call, _result):
         self.reader = call[1:]
         self.reader_set = {"feed", "finish"}
         self.no_room = False
+        self.feeds.set_reader(self.reader)
 
     def see_ranges(self, name, code):
         """The ranges of a reader that was set, once for each sort of call."""
@@ -158,6 +163,7 @@ class Watcher:
             self.table.count(f"after lasting code {before[13]}: {'bytes' if part else 'empty part'}")
             return
         self.see_places(before, part, code)
+        self.feeds.see_feed(before, part, code, consumed, result[10 : 10 + written], self.reader)
         self.see_room("feed", calls.room(call), code, written)
         self.see_retry(part, code, consumed, written)
         if code in (3, 4):
@@ -230,6 +236,7 @@ class Watcher:
         for kind, name in calls.KINDS.items():
             self.table.count(f"run: kind {kind} {name}", kinds.count(kind))
         self.see_answers(answers[::2])
+        lowbyte.see_run(self.table, capture, answers[::2])
         at = 6 + 2 * written
         if code in (3, 4):
             self.see_refused("run", code, capture[at : at + 4], calls.room(call) - written < 2)

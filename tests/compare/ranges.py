@@ -6,6 +6,7 @@ WRITABLE = bytes.fromhex("090A0B0C0D0E0F11121314192021BF")
 SETTINGS = bytes.fromhex("090A0B0C0D0E11121314192021BF")
 KEPT = bytes.fromhex("D5FFFFFFFFFFFFE0E0E0FFFF1F07")
 STANDBY = 0x40
+LOW, LOW_KEPT = 25, 26  # the last two bytes of a device
 DROPPED = bytes(0xFF - kept for kept in KEPT)
 OUTSIDE = sorted(set(range(256)) - set(READABLE) - set(WRITABLE))
 
@@ -20,7 +21,9 @@ DEVICE_ENDS = {
     ("remote reading", -1024): True, ("remote reading", 1023): True, ("remote reading", -1025): False,
     ("remote reading", 1024): False, ("status", 0x7F): True, ("status", 0x80): False, ("live byte", 0x7F): True,
     ("live byte", 0x80): False, ("one-shot pending, D6 of 09", 1): True, ("one-shot pending, D6 of 09", 0): False,
+    ("low byte with none kept", 0): True,
 }
+LOW_BYTES = range(0, 256, 32)
 VARIANT_ENDS = [(0, False), (1, True), (3, True), (4, False), (255, False)]
 
 
@@ -29,6 +32,8 @@ def device_values(device):
     values = {"fault count": device[8], "remote reading": remote_reading(device), "status": device[3], "live byte": device[7]}
     if device[2]:
         values["one-shot pending, D6 of 09"] = device[11] >> 6 & 1
+    if not device[LOW_KEPT]:
+        values["low byte with none kept"] = device[LOW]
     return values
 
 
@@ -47,6 +52,10 @@ def device_faults(device):
         faults.append("live byte")
     if device[2] and not device[11] & STANDBY:
         faults.append("one-shot pending, D6 of 09")
+    if device[LOW_KEPT] and device[LOW] not in LOW_BYTES:
+        faults.append("kept low byte")
+    if not device[LOW_KEPT] and device[LOW]:
+        faults.append("low byte with none kept")
     return faults + [f"setting {address:02X}" for address, byte, dropped in zip(SETTINGS, device[11:], DROPPED) if byte & dropped]
 
 
@@ -61,6 +70,9 @@ def need(table):
             table.need(f"{name}: {field} {told(value, fits)}")
         table.need_all(f"{name}: pointer in range, each of R and W", READABLE + WRITABLE)
         table.need_all(f"{name}: pointer out of range, each other byte", OUTSIDE)
+        table.need_all(f"{name}: kept low byte in range, each multiple of 32", LOW_BYTES)
+        table.need_all(f"{name}: kept low byte out of range, each other byte", set(range(256)) - set(LOW_BYTES))
+        table.need_all(f"{name}: low byte with none kept out of range, each but 0", range(1, 256))
         for address, dropped in zip(SETTINGS, DROPPED):
             if dropped:
                 bits = [1 << bit for bit in range(8) if dropped & 1 << bit]
@@ -102,11 +114,17 @@ def see_device(table, name, device, faults, code):
             table.count(f"{name}: {field} {told(value, fits)}")
     if code != 8:
         table.count_value(f"{name}: pointer in range, each of R and W", device[1])
+        if device[LOW_KEPT]:
+            table.count_value(f"{name}: kept low byte in range, each multiple of 32", device[LOW])
         for address, byte, kept in zip(SETTINGS, device[11:], KEPT):
             if byte == kept:
                 table.count(f"{name}: setting {address:02X} with every kept bit, in range")
     elif faults == ["pointer"]:
         table.count_value(f"{name}: pointer out of range, each other byte", device[1])
+    elif faults == ["kept low byte"]:
+        table.count_value(f"{name}: kept low byte out of range, each other byte", device[LOW])
+    elif faults == ["low byte with none kept"]:
+        table.count_value(f"{name}: low byte with none kept out of range, each but 0", device[LOW])
     elif len(faults) == 1 and faults[0].startswith("setting"):
         place = 11 + SETTINGS.index(int(faults[0][-2:], 16))
         table.count_value(f"{name}: {faults[0]} with one dropped bit, each", device[place] & ~KEPT[place - 11])

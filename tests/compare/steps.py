@@ -1,5 +1,8 @@
 """What single steps show of the rulings P1 to P12: the device before and after, and the answer."""
+import calls
+import lowbyte
 import ranges
+from lowbyte import own_address
 from ranges import KEPT, READABLE, SETTINGS, STANDBY, WRITABLE
 
 BITS = {0x40: "LHIGH", 0x20: "LLOW", 0x10: "RHIGH", 0x08: "RLOW", 0x04: "OPEN", 0x02: "RCRIT", 0x01: "LCRIT"}
@@ -115,7 +118,6 @@ P11 second conversion after a one-shot not taken
 P11 leaving standby clears the one-shot
 P11 write to 09 within standby keeps the one-shot
 P11 power-on clears the one-shot
-P12 low byte read
 P12 rate byte written
 P12 filter bits written
 """.strip().split("\n")
@@ -151,16 +153,13 @@ def eighths(high, low):
     return degrees(high) * 8 + (low >> 5)
 
 
-def own_address(device):
-    return 0x4C if device[0] == 1 else 0x4D
-
-
 class Steps:
     """Watches the steps on one device."""
 
     def __init__(self, table):
         self.table = table
-        self.set_device(bytes(25))
+        self.low_byte = lowbyte.Steps(table)
+        self.set_device(bytes(calls.DEVICE_BYTES))
 
     def set_device(self, device):
         self.device = device
@@ -168,6 +167,7 @@ class Steps:
         self.run = None  # faults in a row, where their beginning was seen
         self.one_shot_taken = False
         self.status_read = 0  # bits that a status read has cleared, until the next conversion
+        self.low_byte.set_device()
 
     def see(self, event, result):
         before, code, after = self.device, result[1], result[4:]
@@ -175,8 +175,11 @@ class Steps:
             ranges.see_step(self.table, before, code)
         self.just_set = False
         self.device = after
+        if code in (3, 4):
+            self.low_byte.see_refused(code, before, after)
         if code != 0:
             return
+        self.low_byte.see(event, before, after, result)
         self.see_bits(before, after)
         self.see_alert(before, after, result[2])
         self.see_crit(before, after, result[2])
@@ -329,7 +332,7 @@ class Steps:
 
     def see_bus(self, event, before, after, result):
         kind, address, acknowledged = event[0], event[1], result[2] & 4
-        if address != own_address(before):
+        if address != own_address(before[0]):
             self.see_other_address(kind, address, before, after, acknowledged)
         elif kind == 1:
             self.see_write(event, before, after, acknowledged)
@@ -343,7 +346,7 @@ class Steps:
     def see_other_address(self, kind, address, before, after, acknowledged):
         if kind == 4 and address == 0x0C:
             self.see_alert_response(before, after, acknowledged)
-        other = 0x4C ^ 0x4D ^ own_address(before)
+        other = 0x4C ^ 0x4D ^ own_address(before[0])
         which = "0Ch" if address == 0x0C else "the other part's" if address == other else "any other"
         self.table.count(f"P10 {('write', 'read', 'send', 'receive')[kind - 1]} at another address: {which}")
         self.when(kind < 4 and address == 0x0C and not acknowledged, "P9 another kind at 0Ch not acknowledged")
@@ -396,7 +399,6 @@ class Steps:
         if register == 0x02:
             self.see_status_read(how, before, after)
         if register == 0x10:
-            self.table.count("P12 low byte read")
             self.table.count_value("registers: low byte of the reading, each of eight", value)
         if register == 0xFF:
             self.table.count_value("registers: FF read, each variant", before[0])
