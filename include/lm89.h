@@ -26,7 +26,7 @@ extern "C" {
  * The version of this header. Under another major number a struct or an answer is another: before any other call test
  * lm89_version() / LM89_VERSION_UNIT == LM89_VERSION_MAJOR.
  */
-#define LM89_VERSION_MAJOR 1
+#define LM89_VERSION_MAJOR 2
 #define LM89_VERSION_MINOR 0
 #define LM89_VERSION_UNIT 65536u
 
@@ -67,10 +67,16 @@ enum {
 /*
  * Registers: LM89_READ_... are numbers to read at, LM89_WRITE_... numbers to write at; LM89_REGISTER_... are read and written at one number.
  * No other number is acknowledged.
+ *
+ * The remote reading has two bytes: read LM89_READ_REMOTE first, then LM89_READ_REMOTE_LOW_BYTE. An acknowledged read of the first keeps the
+ * low byte of the reading as it stands, in place of one kept before; the next read of the second gives the kept byte and lets it go. So the
+ * two bytes are of one reading, though conversions fall between. With none kept the second gives the low byte of the latest reading. A
+ * receive at the device's own address with the pointer there is such a read; nothing else but power-on, which lets go, moves a kept byte.
+ * Low byte first is the wrong order, after a one-shot too: each low byte is then the one kept at the read of the pair before.
  */
 enum {
     LM89_READ_LOCAL = 0x00,             /* local reading, degrees */
-    LM89_READ_REMOTE = 0x01,            /* remote reading, high byte: degrees */
+    LM89_READ_REMOTE = 0x01,            /* remote reading, high byte: degrees; reading keeps the low byte for LM89_READ_REMOTE_LOW_BYTE */
     LM89_READ_STATUS = 0x02,            /* LM89_STATUS_...; reading clears it, and may set LM89_CONFIGURATION_ALERT_MASK */
     LM89_READ_CONFIGURATION = 0x03,     /* LM89_CONFIGURATION_... */
     LM89_READ_RATE = 0x04,              /* conversion rate, kept without effect */
@@ -78,7 +84,7 @@ enum {
     LM89_READ_LOCAL_LOW_LIMIT = 0x06,
     LM89_READ_REMOTE_HIGH_LIMIT = 0x07, /* high byte */
     LM89_READ_REMOTE_LOW_LIMIT = 0x08,  /* high byte */
-    LM89_READ_REMOTE_LOW_BYTE = 0x10,   /* remote reading, low byte: eighths in its top three bits */
+    LM89_READ_REMOTE_LOW_BYTE = 0x10,   /* remote reading, low byte, eighths in its top three bits: the kept one, else the latest; reading lets go */
     LM89_READ_MANUFACTURER = 0xFE,      /* 01h */
     LM89_READ_REVISION = 0xFF,          /* 31h, 34h, 35h in order of LM89_VARIANT_... */
 
@@ -188,6 +194,8 @@ typedef struct {
     uint8_t pointer;      /* a readable or writable register */
     bool pending;         /* a one-shot is pending: only while LM89_CONFIGURATION_STANDBY is set */
     uint8_t status;       /* status bits gathered since status was last read; D7 is 0 */
+    uint8_t low;          /* the remote reading's low byte kept at the last read of LM89_READ_REMOTE: a multiple of 32; 0 where lowkept is false */
+    bool lowkept;         /* such a byte is kept: from that read to the next of LM89_READ_REMOTE_LOW_BYTE, or to power-on */
     uint8_t settings[LM89_SETTINGS];
 } lm89_device;
 

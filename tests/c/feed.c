@@ -1,6 +1,6 @@
 /*
- * lm89_fresh, lm89_feed and lm89_finish: room, held codes, empty parts, readers out of their ranges. With a capture in FILE: the
- * same in parts of several sizes and with several rooms, against lm89_run.
+ * lm89_fresh, lm89_feed and lm89_finish: room, held codes, empty parts, readers out of their ranges, a pair cut between its two
+ * reads. With a capture in FILE: the same in parts of several sizes and with several rooms, against lm89_run.
  */
 #include <string.h>
 
@@ -36,6 +36,7 @@ static bool same_device(const lm89_device *x, const lm89_device *y)
     return x->sensed.local == y->sensed.local && x->sensed.remote == y->sensed.remote && x->sensed.live == y->sensed.live
         && x->sensed.faults == y->sensed.faults && x->sensed.llatch == y->sensed.llatch && x->sensed.rlatch == y->sensed.rlatch
         && x->variant == y->variant && x->pointer == y->pointer && x->pending == y->pending && x->status == y->status
+        && x->low == y->low && x->lowkept == y->lowkept
         && memcmp(x->settings, y->settings, sizeof x->settings) == 0;
 }
 
@@ -251,6 +252,68 @@ static void test_device_ranges(void)
     IN_RANGE(1, device.variant, 255);
 }
 
+/* A reader after so many bytes of the two records, with these two fields of its device. */
+static lm89_reader with_low(size_t length, uint8_t low, bool lowkept)
+{
+    lm89_reader reader = after(length);
+    reader.device.low = low;
+    reader.device.lowkept = lowkept;
+    return reader;
+}
+
+/* Request a: a kept byte is a multiple of 32, and 0 where none is kept; at every stage, the variant not yet taken too. */
+static void test_low_ranges(void)
+{
+    static const uint8_t outside[] = {1, 16, 31, 33, 0xE1, 0xFF};
+    static const uint8_t multiples[] = {0x00, 0x20, 0x40, 0x60, 0x80, 0xA0, 0xC0, 0xE0};
+    for (size_t length = 0; length < sizeof two; length++) {
+        for (size_t i = 0; i < sizeof outside; i++) {
+            CHECK(out_of_range(with_low(length, outside[i], true)));
+            CHECK(out_of_range(with_low(length, outside[i], false)));
+        }
+        for (size_t i = 0; i < sizeof multiples; i++) {
+            lm89_reader none = with_low(length, multiples[i], false);
+            CHECK(empty_part_stands(with_low(length, multiples[i], true), LM89_CODE_DONE, LM89_CODE_CUT_SHORT));
+            CHECK(multiples[i] == 0 ? empty_part_stands(none, LM89_CODE_DONE, LM89_CODE_CUT_SHORT) : out_of_range(none));
+        }
+    }
+}
+
+/* Request a: 50.125 degrees, its high byte read, then 51.875, then register 10 twice: the kept low byte, and the latest. */
+static const uint8_t pair[] = {
+    0x01, LM89_VARIANT_LM89C, 0x00, 0x00, 0x00, 0x05,
+    LM89_KIND_CONVERSION, 0x19, 0x32, 0x20,
+    LM89_KIND_READ, LM89_ADDRESS_LM89C, LM89_READ_REMOTE, 0x00,
+    LM89_KIND_CONVERSION, 0x19, 0x33, 0xE0,
+    LM89_KIND_READ, LM89_ADDRESS_LM89C, LM89_READ_REMOTE_LOW_BYTE, 0x00,
+    LM89_KIND_RECEIVE, LM89_ADDRESS_LM89C, 0x00, 0x00,
+};
+
+static const uint8_t pair_answers[] = {
+    LM89_ANSWER_TAKEN, 0x00, LM89_ANSWER_ACKNOWLEDGED, 0x32, LM89_ANSWER_TAKEN, 0x00,
+    LM89_ANSWER_ACKNOWLEDGED, 0x20, LM89_ANSWER_ACKNOWLEDGED, 0xE0,
+};
+
+#define BEHIND_HIGH 14 /* the read of 01 is complete */
+#define BEHIND_LOW 22  /* the first read of 10 is complete */
+
+/* The pair cut anywhere: between its two reads the reader's device keeps the byte, and only there. */
+static void test_pair(void)
+{
+    uint8_t answers[GUARD];
+    for (size_t cut = 0; cut <= sizeof pair; cut++) {
+        lm89_fed fed = guarded_feed(lm89_fresh(), pair, cut, answers, GUARD);
+        size_t written = fed.written;
+        bool between = BEHIND_HIGH <= cut && cut < BEHIND_LOW;
+        CHECK(fed.code == LM89_CODE_DONE && fed.consumed == cut);
+        CHECK(fed.reader.device.low == (between ? 0x20 : 0) && fed.reader.device.lowkept == between);
+        fed = guarded_feed(fed.reader, pair + cut, sizeof pair - cut, answers + written, GUARD - written);
+        CHECK(fed.code == LM89_CODE_DONE && fed.consumed == sizeof pair - cut);
+        CHECK(written + fed.written == sizeof pair_answers && memcmp(answers, pair_answers, sizeof pair_answers) == 0);
+        CHECK(lm89_finish(fed.reader) == LM89_CODE_DONE);
+    }
+}
+
 /* What the capture's second byte says counts, not the variant that the reader had before. */
 static void test_variant_before(void)
 {
@@ -388,7 +451,10 @@ int main(int count, char **words)
     test_reader_ranges();
     test_count_so_far();
     test_device_ranges();
+    test_low_ranges();
+    test_pair();
     test_variant_before();
     test_capture(two, sizeof two);
+    test_capture(pair, sizeof pair);
     return 0;
 }

@@ -15,18 +15,20 @@ _Static_assert(offsetof(lm89_sensed, live) == 4, "live");
 _Static_assert(offsetof(lm89_sensed, faults) == 5, "faults");
 _Static_assert(offsetof(lm89_sensed, llatch) == 6, "llatch");
 _Static_assert(offsetof(lm89_sensed, rlatch) == 7, "rlatch");
-_Static_assert(sizeof(lm89_device) == 26, "size of lm89_device");
+_Static_assert(sizeof(lm89_device) == 28, "size of lm89_device");
 _Static_assert(offsetof(lm89_device, sensed) == 0, "sensed");
 _Static_assert(offsetof(lm89_device, variant) == 8, "variant");
 _Static_assert(offsetof(lm89_device, pointer) == 9, "pointer");
 _Static_assert(offsetof(lm89_device, pending) == 10, "pending");
 _Static_assert(offsetof(lm89_device, status) == 11, "status");
-_Static_assert(offsetof(lm89_device, settings) == 12, "settings");
+_Static_assert(offsetof(lm89_device, low) == 12, "low");
+_Static_assert(offsetof(lm89_device, lowkept) == 13, "lowkept");
+_Static_assert(offsetof(lm89_device, settings) == 14, "settings");
 _Static_assert(sizeof(lm89_answer) == 3, "size of lm89_answer");
 _Static_assert(offsetof(lm89_answer, code) == 0, "code");
 _Static_assert(offsetof(lm89_answer, first) == 1, "first");
 _Static_assert(offsetof(lm89_answer, second) == 2, "second");
-_Static_assert(sizeof(lm89_reader) == 44, "size of lm89_reader");
+_Static_assert(sizeof(lm89_reader) == 48, "size of lm89_reader");
 _Static_assert(offsetof(lm89_reader, head) == 0, "head");
 _Static_assert(offsetof(lm89_reader, count) == 4, "count");
 _Static_assert(offsetof(lm89_reader, done) == 8, "done");
@@ -34,7 +36,7 @@ _Static_assert(offsetof(lm89_reader, carried) == 12, "carried");
 _Static_assert(offsetof(lm89_reader, bytes) == 13, "bytes");
 _Static_assert(offsetof(lm89_reader, held) == 16, "held");
 _Static_assert(offsetof(lm89_reader, device) == 18, "device");
-_Static_assert(sizeof(lm89_fed) == 64, "size of lm89_fed");
+_Static_assert(sizeof(lm89_fed) == 72, "size of lm89_fed");
 _Static_assert(offsetof(lm89_fed, consumed) == 0, "consumed");
 _Static_assert(offsetof(lm89_fed, written) == 8, "written");
 _Static_assert(offsetof(lm89_fed, code) == 16, "code of lm89_fed");
@@ -330,16 +332,105 @@ static void test_pending(void)
     CHECK(same(&device, &expected));
 }
 
-/* A device with something in every field, left by a conversion in standby after a one-shot, then a second one-shot. */
+/* Request a: a pair is of one reading, though a conversion falls between its two reads; each field after each event. */
+static void test_pair(void)
+{
+    lm89_device device = fresh();
+    fenced_step(&device, LM89_KIND_CONVERSION, 0x19, 0x32, 0x20);
+    lm89_device expected = device;
+    CHECK(device.sensed.remote == 401 && device.low == 0 && !device.lowkept);
+    expected.pointer = LM89_READ_REMOTE;
+    expected.low = 0x20;
+    expected.lowkept = true;
+    CHECK(is(fenced_step(&device, LM89_KIND_READ, HERE, LM89_READ_REMOTE, 0), LM89_CODE_DONE, LM89_ANSWER_ACKNOWLEDGED, 0x32));
+    CHECK(same(&device, &expected));
+    expected.sensed.remote = 415;
+    CHECK(is(fenced_step(&device, LM89_KIND_CONVERSION, 0x19, 0x33, 0xE0), LM89_CODE_DONE, LM89_ANSWER_TAKEN, 0));
+    CHECK(same(&device, &expected));
+    expected.pointer = LM89_READ_REMOTE_LOW_BYTE;
+    expected.low = 0;
+    expected.lowkept = false;
+    CHECK(is(fenced_step(&device, LM89_KIND_READ, HERE, LM89_READ_REMOTE_LOW_BYTE, 0), LM89_CODE_DONE, LM89_ANSWER_ACKNOWLEDGED, 0x20));
+    CHECK(same(&device, &expected));
+    CHECK(is(fenced_step(&device, LM89_KIND_RECEIVE, HERE, 0, 0), LM89_CODE_DONE, LM89_ANSWER_ACKNOWLEDGED, 0xE0));
+    CHECK(same(&device, &expected));
+}
+
+#define KEPT 0x60
+#define LATEST 0xA0
+
+/* Its latest reading is 25.625 degrees, above no limit; the low byte of an earlier one is kept, or none. ALERT is pulled by status. */
+static lm89_device with_low(bool lowkept, uint8_t pointer)
+{
+    lm89_device device = fresh();
+    fenced_step(&device, LM89_KIND_CONVERSION, 0x47, 0x18, KEPT);
+    if (lowkept) {
+        fenced_step(&device, LM89_KIND_READ, HERE, LM89_READ_REMOTE, 0);
+    }
+    fenced_step(&device, LM89_KIND_CONVERSION, 0x19, 0x19, LATEST);
+    fenced_step(&device, LM89_KIND_SEND, HERE, pointer, 0);
+    CHECK(device.low == (lowkept ? KEPT : 0) && device.lowkept == lowkept && device.pointer == pointer);
+    CHECK(device.sensed.remote == 205 && device.status == LM89_STATUS_LHIGH);
+    return device;
+}
+
+/* After the event on that device the byte is kept or none is. */
+static bool leaves(uint8_t low, bool lowkept, lm89_device device, uint8_t kind, uint8_t a, uint8_t b, uint8_t c)
+{
+    return fenced_step(&device, kind, a, b, c).code == LM89_CODE_DONE && device.low == low && device.lowkept == lowkept;
+}
+
+/* Request a, for every register: a read or receive of 01 keeps, one of 10 lets go, and nothing else at any register does either. */
+static void test_what_keeps(bool lowkept)
+{
+    uint8_t before = lowkept ? KEPT : 0;
+    for (unsigned i = 0; i < 256; i++) {
+        uint8_t reg = (uint8_t)i;
+        bool keeps = reg == LM89_READ_REMOTE;
+        bool lets_go = reg == LM89_READ_REMOTE_LOW_BYTE;
+        uint8_t low = keeps ? LATEST : lets_go ? 0 : before;
+        lm89_device device = with_low(lowkept, LM89_READ_LOCAL);
+        CHECK(leaves(low, keeps || (lowkept && !lets_go), device, LM89_KIND_READ, HERE, reg, 0));
+        CHECK(leaves(before, lowkept, device, LM89_KIND_READ, LM89_ADDRESS_LM89_1C, reg, 0));
+        CHECK(leaves(before, lowkept, device, LM89_KIND_SEND, HERE, reg, 0));
+        CHECK(leaves(before, lowkept, device, LM89_KIND_WRITE, HERE, reg, 0xFF));
+        if (memchr(known, reg, sizeof known) != NULL) {
+            device = with_low(lowkept, reg);
+            CHECK(leaves(low, keeps || (lowkept && !lets_go), device, LM89_KIND_RECEIVE, HERE, 0, 0));
+            CHECK(leaves(before, lowkept, device, LM89_KIND_RECEIVE, LM89_ADDRESS_LM89_1C, 0, 0));
+            CHECK(leaves(before, lowkept, device, LM89_KIND_RECEIVE, LM89_ADDRESS_ALERT_RESPONSE, 0, 0));
+        }
+    }
+}
+
+/* Conversions, taken or not, leave a kept byte, and power-on lets go. This device answers the alert response, so it did above. */
+static void test_what_stays(bool lowkept)
+{
+    uint8_t before = lowkept ? KEPT : 0;
+    lm89_device device = with_low(lowkept, LM89_READ_REMOTE_LOW_BYTE);
+    CHECK(leaves(before, lowkept, device, LM89_KIND_CONVERSION, 0x19, 0x19, 0x20));
+    CHECK(leaves(before, lowkept, device, LM89_KIND_OPEN, 0x19, 0, 0));
+    CHECK(leaves(0, false, device, LM89_KIND_POWER_ON, 0, 0, 0));
+    CHECK(is(fenced_step(&device, LM89_KIND_RECEIVE, LM89_ADDRESS_ALERT_RESPONSE, 0, 0), LM89_CODE_DONE, LM89_ANSWER_ACKNOWLEDGED, 0x99));
+    fenced_step(&device, LM89_KIND_WRITE, HERE, LM89_WRITE_CONFIGURATION, LM89_CONFIGURATION_STANDBY);
+    CHECK(leaves(before, lowkept, device, LM89_KIND_CONVERSION, 0x19, 0x19, 0x20));
+    fenced_step(&device, LM89_KIND_WRITE, HERE, LM89_WRITE_ONE_SHOT, 0x00);
+    CHECK(leaves(before, lowkept, device, LM89_KIND_CONVERSION, 0x19, 0x19, 0x20));
+}
+
+/* A device with something in every field, left by a read of 01, a conversion in standby after a one-shot, then a second one-shot. */
 static lm89_device busy(void)
 {
     lm89_device device = fresh();
+    fenced_step(&device, LM89_KIND_CONVERSION, 0x19, 0x19, 0x20);
+    fenced_step(&device, LM89_KIND_READ, HERE, LM89_READ_REMOTE, 0);
     fenced_step(&device, LM89_KIND_WRITE, HERE, LM89_WRITE_CONFIGURATION, LM89_CONFIGURATION_STANDBY);
     fenced_step(&device, LM89_KIND_WRITE, HERE, LM89_WRITE_ONE_SHOT, 0x00);
     fenced_step(&device, LM89_KIND_OPEN, 0x60, 0, 0);
     fenced_step(&device, LM89_KIND_WRITE, HERE, LM89_WRITE_ONE_SHOT, 0x00);
     CHECK(device.pending && device.sensed.llatch && device.sensed.rlatch);
     CHECK(device.status == 0x57 && device.sensed.live == 0x57 && device.sensed.faults == 1);
+    CHECK(device.low == 0x20 && device.lowkept);
     return device;
 }
 
@@ -401,6 +492,11 @@ static void test_ranges(void)
     OUT_OF_RANGE(variant, 4);
     OUT_OF_RANGE(pointer, 0x30);
     OUT_OF_RANGE(status, 0x80);
+    OUT_OF_RANGE(low, 1);
+    OUT_OF_RANGE(low, 16);
+    OUT_OF_RANGE(low, 33);
+    OUT_OF_RANGE(low, 0xFF);
+    OUT_OF_RANGE(lowkept, false);
     OUT_OF_RANGE(settings[LM89_SETTING_CONFIGURATION], 0x00);
     OUT_OF_RANGE(sensed.live, 0x80);
     OUT_OF_RANGE(sensed.faults, 4);
@@ -413,6 +509,32 @@ static void test_ranges(void)
     }
 }
 
+/* Request a: of the 512 contents of the two fields nine are in range, and a read of 10 gives the kept byte, or the latest. */
+static void test_low_ranges(void)
+{
+    static const uint8_t multiples[] = {0x00, 0x20, 0x40, 0x60, 0x80, 0xA0, 0xC0, 0xE0};
+    unsigned in_range = 0;
+    for (unsigned i = 0; i < 512; i++) {
+        lm89_device device = with_low(false, LM89_READ_REMOTE_LOW_BYTE);
+        device.low = (uint8_t)i;
+        device.lowkept = i >= 256;
+        bool kept = device.lowkept && memchr(multiples, device.low, sizeof multiples) != NULL;
+        if (!kept && (device.lowkept || device.low != 0)) {
+            CHECK(out_of_range(device));
+            continue;
+        }
+        lm89_device expected = device;
+        expected.low = 0;
+        expected.lowkept = false;
+        uint8_t byte = device.lowkept ? device.low : LATEST;
+        lm89_answer answer = fenced_step(&device, LM89_KIND_RECEIVE, HERE, 0, 0);
+        CHECK(is(answer, LM89_CODE_DONE, LM89_ANSWER_ACKNOWLEDGED | LM89_ANSWER_ALERT, byte));
+        CHECK(same(&device, &expected));
+        in_range++;
+    }
+    CHECK(in_range == sizeof multiples + 1);
+}
+
 int main(void)
 {
     test_version();
@@ -423,9 +545,15 @@ int main(void)
     test_faults();
     test_status_read();
     test_pending();
+    test_pair();
+    test_what_keeps(false);
+    test_what_keeps(true);
+    test_what_stays(false);
+    test_what_stays(true);
     test_kinds();
     test_operands();
     test_zeros();
     test_ranges();
+    test_low_ranges();
     return 0;
 }

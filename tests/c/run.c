@@ -1,4 +1,4 @@
-/* lm89_run: empty slices, short room, prefixes, refusals, and a long capture against the step. */
+/* lm89_run: empty slices, short room, prefixes, refusals, a pair of reads, and a long capture against the step. */
 #include <string.h>
 
 #include "check.h"
@@ -88,6 +88,26 @@ static void test_codes(void)
     CHECK(changed(HEADER + 1, 0x80, 0, 0, LM89_CODE_OPERAND));
     CHECK(changed(HEADER + 4, 0, 3, 2, LM89_CODE_KIND));
     CHECK(changed(HEADER + 7, 1, 3, 2, LM89_CODE_OPERAND));
+}
+
+/* Request a: 49.875 degrees, its high byte read, then 50.000: register 10 gives the byte of 49.875, then the latest. */
+static void test_pair(void)
+{
+    static const uint8_t capture[] = {
+        0x01, LM89_VARIANT_LM89C, 0x00, 0x00, 0x00, 0x05,
+        LM89_KIND_CONVERSION, 0x19, 0x31, 0xE0,
+        LM89_KIND_READ, LM89_ADDRESS_LM89C, LM89_READ_REMOTE, 0x00,
+        LM89_KIND_CONVERSION, 0x19, 0x32, 0x00,
+        LM89_KIND_READ, LM89_ADDRESS_LM89C, LM89_READ_REMOTE_LOW_BYTE, 0x00,
+        LM89_KIND_READ, LM89_ADDRESS_LM89C, LM89_READ_REMOTE_LOW_BYTE, 0x00,
+    };
+    static const uint8_t expected[] = {
+        LM89_ANSWER_TAKEN, 0x00, LM89_ANSWER_ACKNOWLEDGED, 0x31, LM89_ANSWER_TAKEN, 0x00,
+        LM89_ANSWER_ACKNOWLEDGED, 0xE0, LM89_ANSWER_ACKNOWLEDGED, 0x00,
+    };
+    uint8_t answers[sizeof expected];
+    CHECK(lm89_run(capture, sizeof capture, answers, sizeof answers) == LM89_RUN_UNIT * sizeof answers + LM89_CODE_DONE);
+    CHECK(memcmp(answers, expected, sizeof expected) == 0);
 }
 
 /* A fixed row of numbers (xorshift). */
@@ -199,6 +219,7 @@ int main(void)
     test_room();
     test_prefixes();
     test_codes();
+    test_pair();
     test_long();
     return 0;
 }
