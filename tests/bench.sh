@@ -75,6 +75,14 @@ streamed() {
     printf 'c: stream ok\n'
 }
 
+# The example of a pair of reads with a conversion between: 31 E0 is 399 eighths, 32 00 is 400.
+paired() {
+    printf '%s\n' 'first pair: 31 E0, 399 eighths, 49.875 degrees' 'second pair: 32 00, 400 eighths, 50.000 degrees' >build/counted
+    run build/pair >build/listed || stop "examples/pair.c failed, see above"
+    same build/counted build/listed "examples/pair.c shows another pair"
+    printf 'c: pair ok\n'
+}
+
 # What the program listing says where input or output fails; it has no exit status.
 program_says() {
     local said
@@ -95,6 +103,7 @@ passes example examples/bench.c
 other_version
 is_cpp examples/bench.c
 is_cpp examples/stream.c
+is_cpp examples/pair.c
 printf 'c++: headers ok\n'
 passes layout tests/c/layout.c
 passes run tests/c/run.c
@@ -102,6 +111,8 @@ passes feed tests/c/feed.c
 passes write tests/c/write.c
 program list tests/c/list.c
 program stream examples/stream.c
+program pair examples/pair.c
+paired
 for hex in samples/*.hex; do
     sample "$(basename "$hex" .hex)"
 done
