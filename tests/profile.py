@@ -3,7 +3,7 @@
 
 An example is a block of indented rows 'kind a b c -> first second', in hex, on an LM89C fresh from power-on; in the listing's own
 example the record's number stands before the two answer bytes. Exits 1 and names each row that gives another answer, and each
-section of a ruling from P2 on that has no example.
+section of a ruling from P2 on, or of a request, that has no example.
 """
 import pathlib
 import re
@@ -50,7 +50,7 @@ def main():
         sys.exit("profile: give a listing program, as 'build/bin/lm89 list'")
     lines = PROFILE.read_text().splitlines()
     blocks = list(examples(lines))
-    rulings = {title.split(".")[0] for title in re.findall(r"(?m)^### (P\d+\.)", PROFILE.read_text())} - WITHOUT_EXAMPLE
+    rulings = {title.split(".")[0] for title in re.findall(r"(?m)^### (P\d+\.|[a-m]\.)", PROFILE.read_text())} - WITHOUT_EXAMPLE
     faults = [fault for _, rows in blocks for fault in faults_of(sys.argv[1:], rows)]
     faults += [f"{PROFILE}: {ruling} has no example" for ruling in sorted(rulings - {title.split(".")[0] for title, _ in blocks})]
     if not rulings:
