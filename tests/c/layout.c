@@ -403,7 +403,7 @@ static void test_what_keeps(bool lowkept)
     }
 }
 
-/* Conversions, taken or not, leave a kept byte, and power-on lets go. This device answers the alert response, so it did above. */
+/* Conversions, taken or not, and an alert response, answered or not, leave a kept byte; power-on lets go. Standby is as run mode. */
 static void test_what_stays(bool lowkept)
 {
     uint8_t before = lowkept ? KEPT : 0;
@@ -412,10 +412,14 @@ static void test_what_stays(bool lowkept)
     CHECK(leaves(before, lowkept, device, LM89_KIND_OPEN, 0x19, 0, 0));
     CHECK(leaves(0, false, device, LM89_KIND_POWER_ON, 0, 0, 0));
     CHECK(is(fenced_step(&device, LM89_KIND_RECEIVE, LM89_ADDRESS_ALERT_RESPONSE, 0, 0), LM89_CODE_DONE, LM89_ANSWER_ACKNOWLEDGED, 0x99));
+    CHECK(is(fenced_step(&device, LM89_KIND_RECEIVE, LM89_ADDRESS_ALERT_RESPONSE, 0, 0), LM89_CODE_DONE, 0, 0));
+    CHECK(device.low == before && device.lowkept == lowkept && device.pointer == LM89_READ_REMOTE_LOW_BYTE);
     fenced_step(&device, LM89_KIND_WRITE, HERE, LM89_WRITE_CONFIGURATION, LM89_CONFIGURATION_STANDBY);
     CHECK(leaves(before, lowkept, device, LM89_KIND_CONVERSION, 0x19, 0x19, 0x20));
     fenced_step(&device, LM89_KIND_WRITE, HERE, LM89_WRITE_ONE_SHOT, 0x00);
     CHECK(leaves(before, lowkept, device, LM89_KIND_CONVERSION, 0x19, 0x19, 0x20));
+    CHECK(leaves(LATEST, true, device, LM89_KIND_READ, HERE, LM89_READ_REMOTE, 0));
+    CHECK(leaves(0, false, device, LM89_KIND_READ, HERE, LM89_READ_REMOTE_LOW_BYTE, 0));
 }
 
 /* A device with something in every field, left by a read of 01, a conversion in standby after a one-shot, then a second one-shot. */
