@@ -1,5 +1,5 @@
 #!/usr/bin/env python3
-"""Applies whole misreadings of document 01 to the definitions, and says of each whether a theorem notices.
+"""Applies whole misreadings of document 01 and of requests to the definitions, and says of each whether a theorem notices.
 
 Each misreadings/NAME.edit has a first line, '# WORDS; noticed by: CRATE/FILE: THEOREM, ..; CRATE/FILE: ..', which names the theorems
 whose statements are false under the misreading, and then lines 'file:' (from the repository's root), 'old:' and 'new:' as a must-fail
