@@ -174,8 +174,8 @@ enum {
 
 /* What only taken conversions and power-on move. */
 typedef struct {
-    uint8_t local;  /* local reading in degrees, two's complement */
     int16_t remote; /* remote reading in eighths of a degree, -1024 to 1023 */
+    uint8_t local;  /* local reading in degrees, two's complement */
     uint8_t live;   /* status bits true at the last taken conversion; D7 is 0 */
     uint8_t faults; /* fault count, 0 to 3 */
     bool llatch;    /* local T_CRIT latch */
@@ -194,9 +194,9 @@ typedef struct {
     uint8_t pointer;      /* a readable or writable register */
     bool pending;         /* a one-shot is pending: only while LM89_CONFIGURATION_STANDBY is set */
     uint8_t status;       /* status bits gathered since status was last read; D7 is 0 */
+    uint8_t settings[LM89_SETTINGS];
     uint8_t low;          /* the remote reading's low byte kept at the last read of LM89_READ_REMOTE: a multiple of 32; 0 where lowkept is false */
     bool lowkept;         /* such a byte is kept: from that read to the next of LM89_READ_REMOTE_LOW_BYTE, or to power-on */
-    uint8_t settings[LM89_SETTINGS];
 } lm89_device;
 
 /*

@@ -9,21 +9,21 @@
 #include "lm89_list.h"
 
 _Static_assert(sizeof(lm89_sensed) == 8, "size of lm89_sensed");
-_Static_assert(offsetof(lm89_sensed, local) == 0, "local");
-_Static_assert(offsetof(lm89_sensed, remote) == 2, "remote");
-_Static_assert(offsetof(lm89_sensed, live) == 4, "live");
-_Static_assert(offsetof(lm89_sensed, faults) == 5, "faults");
-_Static_assert(offsetof(lm89_sensed, llatch) == 6, "llatch");
-_Static_assert(offsetof(lm89_sensed, rlatch) == 7, "rlatch");
+_Static_assert(offsetof(lm89_sensed, remote) == 0, "remote");
+_Static_assert(offsetof(lm89_sensed, local) == 2, "local");
+_Static_assert(offsetof(lm89_sensed, live) == 3, "live");
+_Static_assert(offsetof(lm89_sensed, faults) == 4, "faults");
+_Static_assert(offsetof(lm89_sensed, llatch) == 5, "llatch");
+_Static_assert(offsetof(lm89_sensed, rlatch) == 6, "rlatch");
 _Static_assert(sizeof(lm89_device) == 28, "size of lm89_device");
 _Static_assert(offsetof(lm89_device, sensed) == 0, "sensed");
 _Static_assert(offsetof(lm89_device, variant) == 8, "variant");
 _Static_assert(offsetof(lm89_device, pointer) == 9, "pointer");
 _Static_assert(offsetof(lm89_device, pending) == 10, "pending");
 _Static_assert(offsetof(lm89_device, status) == 11, "status");
-_Static_assert(offsetof(lm89_device, low) == 12, "low");
-_Static_assert(offsetof(lm89_device, lowkept) == 13, "lowkept");
-_Static_assert(offsetof(lm89_device, settings) == 14, "settings");
+_Static_assert(offsetof(lm89_device, settings) == 12, "settings");
+_Static_assert(offsetof(lm89_device, low) == 26, "low");
+_Static_assert(offsetof(lm89_device, lowkept) == 27, "lowkept");
 _Static_assert(sizeof(lm89_answer) == 3, "size of lm89_answer");
 _Static_assert(offsetof(lm89_answer, code) == 0, "code");
 _Static_assert(offsetof(lm89_answer, first) == 1, "first");
@@ -161,12 +161,12 @@ static const uint8_t known[] = {
     0x10, 0x11, 0x12, 0x13, 0x14, 0x19, 0x20, 0x21, 0xBF, 0xFE, 0xFF,
 };
 
-/* Every byte of the two devices but the one of padding behind the local reading. */
+/* Every byte of the two devices but the one of padding at the end of what was sensed. */
 static bool same(const lm89_device *x, const lm89_device *y)
 {
-    size_t behind = offsetof(lm89_device, sensed) + offsetof(lm89_sensed, remote);
-    return x->sensed.local == y->sensed.local
-        && memcmp((const char *)x + behind, (const char *)y + behind, sizeof *x - behind) == 0;
+    size_t sensed = offsetof(lm89_sensed, rlatch) + sizeof x->sensed.rlatch;
+    size_t behind = offsetof(lm89_device, variant);
+    return memcmp(x, y, sensed) == 0 && memcmp((const char *)x + behind, (const char *)y + behind, sizeof *x - behind) == 0;
 }
 
 static lm89_device zeros(void)
@@ -275,14 +275,19 @@ static void converts(uint8_t kind, uint8_t local, uint8_t high, uint8_t low, lm8
     CHECK(same(&device, &expected));
 }
 
+static lm89_sensed sensed(uint8_t local, int16_t remote, uint8_t live, uint8_t faults, bool llatch, bool rlatch)
+{
+    return (lm89_sensed){.local = local, .remote = remote, .live = live, .faults = faults, .llatch = llatch, .rlatch = rlatch};
+}
+
 static void test_conversions(void)
 {
-    converts(LM89_KIND_CONVERSION, 0x19, 0x19, 0x20, (lm89_sensed){0x19, 201, 0x00, 0, false, false}, 0x08);
-    converts(LM89_KIND_CONVERSION, 0x19, 0xFF, 0xE0, (lm89_sensed){0x19, -1, 0x08, 1, false, false}, 0x09);
-    converts(LM89_KIND_CONVERSION, 0x80, 0x80, 0x00, (lm89_sensed){0x80, -1024, 0x28, 1, false, false}, 0x09);
-    converts(LM89_KIND_CONVERSION, 0x19, 0x7F, 0xE0, (lm89_sensed){0x19, 1023, 0x12, 1, false, true}, 0x0B);
-    converts(LM89_KIND_CONVERSION, 0x7F, 0x19, 0x00, (lm89_sensed){0x7F, 200, 0x41, 0, true, false}, 0x0B);
-    converts(LM89_KIND_OPEN, 0x56, 0x00, 0x00, (lm89_sensed){0x56, 1016, 0x57, 1, true, true}, 0x0B);
+    converts(LM89_KIND_CONVERSION, 0x19, 0x19, 0x20, sensed(0x19, 201, 0x00, 0, false, false), 0x08);
+    converts(LM89_KIND_CONVERSION, 0x19, 0xFF, 0xE0, sensed(0x19, -1, 0x08, 1, false, false), 0x09);
+    converts(LM89_KIND_CONVERSION, 0x80, 0x80, 0x00, sensed(0x80, -1024, 0x28, 1, false, false), 0x09);
+    converts(LM89_KIND_CONVERSION, 0x19, 0x7F, 0xE0, sensed(0x19, 1023, 0x12, 1, false, true), 0x0B);
+    converts(LM89_KIND_CONVERSION, 0x7F, 0x19, 0x00, sensed(0x7F, 200, 0x41, 0, true, false), 0x0B);
+    converts(LM89_KIND_OPEN, 0x56, 0x00, 0x00, sensed(0x56, 1016, 0x57, 1, true, true), 0x0B);
 }
 
 static void test_faults(void)

@@ -3,11 +3,11 @@ ghost use mathlib.Core.Path.{_≡_};
 ghost use Rattle.conversion.specs.Conversion.{readingOf, localLimitsOf, remoteLimitsOf, outOf, anyOf, countOf, queuedOf, shownOf, bitOf, liveOf, latchOf, sensedOf};
 use registers::bits;
 
-// All that only conversions and power-on move. Readings: local in degrees, a byte; remote in eighths.
+// All that only conversions and power-on move. Readings: remote in eighths; local in degrees, a byte. No padding but at the end.
 #[repr(C)]
 pub struct Sensed {
-    pub local: u8,
     pub remote: i16,
+    pub local: u8,
     pub live: u8,
     pub faults: u8,
     pub llatch: bool,

@@ -1,11 +1,13 @@
--- `read-ind`: what a read of a register leaves, case by case.
+-- What a read of a register leaves: `read-ind`, case by case; `settable-read`, of a setting.
 -- Assumes nothing.
-use mathlib.Core.Path.{_≡_}
+use mathlib.Core.Path.{_≡_, refl, sym, ap, _∙_}
 use mathlib.Core.Bool.{Bool, true, false, not, _&&_}
 use Prim.Native.Nat.{ℕ}
 use lib.Dec.{eqb}
-use Rattle.laws.proofs.Choices.{cond-ind}
+use borrow.Author.Tests.{ne-eqb}
+use Rattle.laws.proofs.Choices.{cond-ind, clash}
 use Rattle.registers.specs.Bits.{has, alerting}
+use Rattle.registers.specs.Page.{settableOf}
 use Rattle.device.specs.declared.Device.{Device}
 use Rattle.device.specs.Pins.{comparatorOf}
 use Rattle.device.specs.Bus.{maskedOf, statusClearedOf, statusReadOf, lowKeptOf, lowLetGoOf, afterReadOf}
@@ -29,3 +31,11 @@ read-ind P d r kept cleared masked gone plain =
     (λ n01. cond-ind P (eqb r 0x02)
     (λ t. cond-ind P (finds d) (λ f. masked t f) (λ f. cleared t f))
     (λ n02. cond-ind P (eqb r 0x10) gone (λ n10. plain n01 n02 n10)))
+
+-- none of the three is settable: a read of a setting leaves the device as it was
+pub settable-read : (d : Device) (r : ℕ) → settableOf r ≡ true → afterReadOf d r ≡ d
+unfolding afterReadOf settableOf
+settable-read d r h = rw (apart 0x01 refl, apart 0x02 refl, apart 0x10 refl)
+  where
+    apart : (k : ℕ) → settableOf k ≡ false → eqb r k ≡ false
+    apart k n = ne-eqb r k (λ e. clash (sym n ∙ ap settableOf (sym e) ∙ h))

@@ -4,7 +4,7 @@ ghost use Rattle.registers.specs.Page.{writePositionOf};
 ghost use Rattle.registers.specs.declared.Position.the-variants.{At};
 ghost use Rattle.device.specs.Bus.{silentOf, answeredOf, pointedOf, maskedOf, storedOf, firedOf, putOf, statusReadOf};
 ghost use Rattle.device.specs.Bus.{lowKeptOf, lowLetGoOf, lowReadOf, afterReadOf};
-ghost use Rattle.device.specs.Bus.{readOnlyValueOf, valueOf, getOf, pointOf, respondsOf, respondOf, takesOf, convertedOf, senseOf, poweredOf};
+ghost use Rattle.device.specs.Bus.{readOnlyValueOf, getOf, pointOf, respondsOf, respondOf, takesOf, convertedOf, senseOf, poweredOf};
 ghost use Rattle.device.specs.Asking.{askedAt, askedOf};
 use super::Asked;
 use super::Device;
@@ -136,38 +136,17 @@ fn low_let_go(d: Device) -> Device
     n
 }
 
-// What a read of the register leaves.
-fn after_read(d: Device, reg: u8) -> Device
-    ensures { λ r. ⌜ r ≡ afterReadOf d reg ⌝ }
+// A register that no write sets: its byte, and what a read of it leaves.
+fn read_only(n: Device, reg: u8) -> Outcome
+    ensures { λ r. ⌜ r ≡ answeredOf (afterReadOf n reg) (readOnlyValueOf n reg) ⌝ }
 {
+    let s = n.sensed;
     match reg {
-        registers::REMOTE => low_kept(d),
-        registers::STATUS => status_read(d),
-        registers::REMOTE_PART => low_let_go(d),
-        _ => d,
-    }
-}
-
-fn read_only_value(d: Device, reg: u8) -> u8
-    ensures { λ r. ⌜ r ≡ readOnlyValueOf d reg ⌝ }
-{
-    let s = d.sensed;
-    match reg {
-        registers::LOCAL => s.local,
-        registers::REMOTE => temperature::high_byte(s.remote),
-        registers::STATUS => d.status,
-        registers::REMOTE_PART => low_read(d),
-        _ => registers::read_only(d.variant, reg),
-    }
-}
-
-fn value(d: Device, reg: u8) -> u8
-    ensures { λ r. ⌜ r ≡ valueOf d reg ⌝ }
-{
-    let p = registers::read_position(reg);
-    match p {
-        Position::At(i) => d.settings[i as usize],
-        Position::Nowhere => read_only_value(d, reg),
+        registers::LOCAL => answered(n, s.local),
+        registers::REMOTE => answered(low_kept(n), temperature::high_byte(s.remote)),
+        registers::STATUS => answered(status_read(n), n.status),
+        registers::REMOTE_PART => answered(low_let_go(n), low_read(n)),
+        _ => answered(n, registers::read_only(n.variant, reg)),
     }
 }
 
@@ -178,7 +157,12 @@ pub(crate) fn get(d: Device, reg: u8) -> Outcome
     if !registers::readable(reg) {
         return silent(d);
     }
-    answered(after_read(pointed(d, reg), reg), value(d, reg))
+    let n = pointed(d, reg);
+    let p = registers::read_position(reg);
+    match p {
+        Position::At(i) => answered(n, d.settings[i as usize]),
+        Position::Nowhere => read_only(n, reg),
+    }
 }
 
 // Send byte.

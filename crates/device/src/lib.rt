@@ -8,7 +8,7 @@ pub mod bus;
 pub mod outputs;
 pub mod ranges;
 
-// The low byte kept at a read of 01, and whether one is; the fourteen settings in rising order of their write addresses.
+// The fourteen settings stand in rising order of their write addresses; `low` is the byte kept at a read of 01, if one is.
 #[repr(C)]
 pub struct Device {
     pub sensed: Sensed,
@@ -16,9 +16,9 @@ pub struct Device {
     pub pointer: u8,
     pub pending: bool,
     pub status: u8,
+    pub settings: [u8; 14],
     pub low: u8,
     pub lowkept: bool,
-    pub settings: [u8; 14],
 }
 
 // Address, register and value; local byte, remote high and low byte: raw, as in a record.
