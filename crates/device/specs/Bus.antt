@@ -131,7 +131,7 @@ readOnlyValueOf d r =
 unfoldable pub valueOf : Device → ℕ → ℕ
 valueOf d r = cond (settableOf r) (settingOf (d .settings) r) (readOnlyValueOf d r)
 
--- what a read of a register leaves
+-- what an acknowledged read of a register leaves: a for 01 and 10, P6 for 02; of every other the device as it was
 unfoldable pub afterReadOf : Device → ℕ → Device
 afterReadOf d r =
     cond (eqb r 0x01) (lowKeptOf d)

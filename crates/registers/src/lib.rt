@@ -40,13 +40,14 @@ pub const HYSTERESIS: usize = 12;
 
 pub const FILTER_ALERT: usize = 13;
 
-pub const ONE_SHOT: u8 = 0x0F;
-
+// Numbers of the registers that are no settings: the readings, status and the one-shot.
 pub const LOCAL: u8 = 0x00;
 
 pub const REMOTE: u8 = 0x01;
 
 pub const STATUS: u8 = 0x02;
+
+pub const ONE_SHOT: u8 = 0x0F;
 
 pub const REMOTE_PART: u8 = 0x10;
 
