@@ -1,6 +1,7 @@
 -- `powered-zero`: power-on of no variant leaves all zeros. `step-effect`: in range and with operands in the table a step is the effect with code 0.
+-- `ranged-after` and `variant-after`: a step, refused or not, leaves neither the ranges nor the variants.
 -- Assumes nothing.
-use mathlib.Core.Path.{_≡_, refl}
+use mathlib.Core.Path.{_≡_, refl, ap, _∙_}
 use mathlib.Core.Bool.{Bool, true, false, _&&_, cond}
 use Rattle.device.specs.declared.Device.{Device}
 use Rattle.device.specs.declared.Event.{Event}
@@ -9,6 +10,8 @@ use Rattle.registers.specs.Page.{powerOnOf, readOnlyOf}
 use Rattle.device.specs.Bus.{poweredOf, zeroDevice}
 use Rattle.device.specs.Ranges.{variantOf, rangedOf, operandsOf}
 use Rattle.device.specs.Step.{effectOf, refusedOf, steppedOf, stepOf}
+use Rattle.device.proofs.InRange.{kept}
+use Rattle.device.proofs.Untouched.{same-variant}
 
 pub powered-zero : poweredOf 0 ≡ zeroDevice
 unfolding poweredOf powerOnOf readOnlyOf eighthsOf degreesOf
@@ -27,3 +30,9 @@ step-ind P d e before after = split (variantOf (d .variant) && rangedOf d) (oper
     split true true = after
     split true false = before
     split false t = before
+
+pub ranged-after : (d : Device) (e : Event) → rangedOf d ≡ true → rangedOf (stepOf d e .device) ≡ true
+ranged-after d e r = step-ind (λ (x : Device). rangedOf x ≡ true) d e r (kept d e r)
+
+pub variant-after : (d : Device) (e : Event) → variantOf (d .variant) ≡ true → variantOf (stepOf d e .device .variant) ≡ true
+variant-after d e v = step-ind (λ (x : Device). variantOf (x .variant) ≡ true) d e v (ap variantOf (same-variant d e) ∙ v)

@@ -1,5 +1,5 @@
--- The bus, conversions and power-on, by rulings P5, P6 and P9 to P12 and request a, which takes the place of P12's sentence on register
--- 10: what a device does at a write, a read, a send, an alert response, a conversion and power-on. Settings are named by the numbers at
+-- The bus, conversions and power-on, by rulings P5, P6 and P9 to P11 and by request a, which stands in the place of P12's sentence on
+-- register 10: what a device does at a write, a read, a send, an alert response, a conversion and power-on. Settings are named by the numbers at
 -- which their registers are read.
 -- Assumes nothing.
 use Prim.Native.Nat.{ℕ, _+_, _*_}
@@ -105,15 +105,15 @@ statusReadOf d = cond (not (comparatorOf d) && has (d .status) alerting) (masked
 abbrev pub latestLowOf : Device → ℕ
 latestLowOf d = lowByteOf (d .sensed .remote)
 
--- a: a read of 01 keeps that moment's low byte, whatever was kept before it
+-- request a: a read of 01 keeps that moment's low byte, whatever was kept before it
 abbrev pub lowKeptOf : Device → Device
 lowKeptOf d = readOutOf d (d .status) (latestLowOf d) true
 
--- a: a read of 10 lets go
+-- request a: a read of 10 lets go
 abbrev pub lowLetGoOf : Device → Device
 lowLetGoOf d = readOutOf d (d .status) 0 false
 
--- a: register 10 reads the kept low byte; with nothing kept, the latest
+-- request a: register 10 reads the kept low byte; with nothing kept, the latest
 unfoldable pub lowReadOf : Device → ℕ
 lowReadOf d = cond (d .lowkept) (d .low) (latestLowOf d)
 
@@ -131,7 +131,7 @@ readOnlyValueOf d r =
 unfoldable pub valueOf : Device → ℕ → ℕ
 valueOf d r = cond (settableOf r) (settingOf (d .settings) r) (readOnlyValueOf d r)
 
--- what an acknowledged read of a register leaves: a for 01 and 10, P6 for 02; of every other the device as it was
+-- what an acknowledged read of a register leaves: request a for 01 and 10, P6 for 02; of every other the device as it was
 unfoldable pub afterReadOf : Device → ℕ → Device
 afterReadOf d r =
     cond (eqb r 0x01) (lowKeptOf d)
@@ -168,7 +168,7 @@ respondOf d = cond (respondsOf d) (answeredOf (maskedOf d) (addressOf (d .varian
 unfoldable pub takesOf : Device → Bool
 takesOf d = not (standbyOf (d .settings)) || d .pending
 
--- P5: status gathers the live bits; P11: taking it clears a pending one-shot; a: a kept low byte stays that of its own reading
+-- P5: status gathers the live bits; P11: taking it clears a pending one-shot; request a: a kept low byte stays that of its own reading
 abbrev pub gatheredOf : Device → Sensed → Device
 gatheredOf d n =
     record {
@@ -206,7 +206,7 @@ zeroDevice =
       settings = 0 ∷ 0 ∷ 0 ∷ 0 ∷ 0 ∷ 0 ∷ 0 ∷ 0 ∷ 0 ∷ 0 ∷ 0 ∷ 0 ∷ 0 ∷ 0 ∷ [];
     }
 
--- the page's bytes, the pointer at 00 (P10), no low byte kept (a), nothing pending, live, counted or latched
+-- the page's bytes, the pointer at 00 (P10), no low byte kept (request a), nothing pending, live, counted or latched
 unfoldable pub poweredOf : ℕ → Device
 poweredOf variant =
     record {

@@ -1,4 +1,4 @@
-// P6, P9 to P12 and request a: the bus, conversions and power-on.
+// P6, P9 to P11 and request a: the bus, conversions and power-on.
 ghost use mathlib.Core.Path.{_≡_};
 ghost use Rattle.registers.specs.Page.{writePositionOf};
 ghost use Rattle.registers.specs.declared.Position.the-variants.{At};
@@ -137,16 +137,16 @@ fn low_let_go(d: Device) -> Device
 }
 
 // A register that no write sets: its byte, and what a read of it leaves.
-fn read_only(n: Device, reg: u8) -> Outcome
-    ensures { λ r. ⌜ r ≡ answeredOf (afterReadOf n reg) (readOnlyValueOf n reg) ⌝ }
+fn read_only(d: Device, reg: u8) -> Outcome
+    ensures { λ r. ⌜ r ≡ answeredOf (afterReadOf d reg) (readOnlyValueOf d reg) ⌝ }
 {
-    let s = n.sensed;
+    let s = d.sensed;
     match reg {
-        registers::LOCAL => answered(n, s.local),
-        registers::REMOTE => answered(low_kept(n), temperature::high_byte(s.remote)),
-        registers::STATUS => answered(status_read(n), n.status),
-        registers::REMOTE_PART => answered(low_let_go(n), low_read(n)),
-        _ => answered(n, registers::read_only(n.variant, reg)),
+        registers::LOCAL => answered(d, s.local),
+        registers::REMOTE => answered(low_kept(d), temperature::high_byte(s.remote)),
+        registers::STATUS => answered(status_read(d), d.status),
+        registers::REMOTE_PART => answered(low_let_go(d), low_read(d)),
+        _ => answered(d, registers::read_only(d.variant, reg)),
     }
 }
 

@@ -31,9 +31,7 @@ use Rattle.device.specs.Run.{Reply, ok, afterOf}
 use Rattle.device.specs.Ranges.{variantOf, rangedOf, operandsOf}
 use Rattle.device.specs.Step.{effectOf, answerOf, stepOf, steppedOf, refusedOf}
 use Rattle.device_laws.proofs.Changes.{setting-other, setting-mapped, changed-mapped, changed-same, changed-other}
-use Rattle.device.proofs.InRange.{kept}
-use Rattle.device.proofs.Steps.{step-effect, step-ind}
-use Rattle.device.proofs.Untouched.{same-variant}
+use Rattle.device.proofs.Steps.{step-effect, ranged-after, variant-after}
 
 -- ---- the fourteen bytes
 
@@ -408,12 +406,6 @@ module _ (d e : Device) (event : Event) (a : Alike d e) (variant : variantOf (d 
 
   step-alike : StepAlike
   step-alike = by-test (operandsOf event) admitted refused
-
-ranged-after : (d : Device) (event : Event) → rangedOf d ≡ true → rangedOf (stepOf d event .device) ≡ true
-ranged-after d event r = step-ind (λ (x : Device). rangedOf x ≡ true) d event r (kept d event r)
-
-variant-after : (d : Device) (event : Event) → variantOf (d .variant) ≡ true → variantOf (stepOf d event .device .variant) ≡ true
-variant-after d event v = step-ind (λ (x : Device). variantOf (x .variant) ≡ true) d event v (ap variantOf (same-variant d event) ∙ v)
 
 pub alike-run : (events : List Event) (d e : Device) → Alike d e → variantOf (d .variant) ≡ true → rangedOf d ≡ true → rangedOf e ≡ true
     → (shownReplies d events ≡ shownReplies e events) × Alike (afterOf d events) (afterOf e events)

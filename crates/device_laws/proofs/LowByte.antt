@@ -1,14 +1,15 @@
 -- Request a. `untorn`: after a read of 01, whatever comes between but another read of 01 or 10 or power-on, a read of 10 gives the low byte of
--- the reading whose high byte was read. `unmoved`: nothing else keeps a low byte or lets one go. `latest`: with nothing kept, 10 is the low byte of
--- the latest reading. `by-pointer`: a receive is a read of the register at the pointer.
+-- the reading whose high byte was read. `unmoved`, and `unmoved-between` of a row: nothing else keeps a low byte or lets one go. `latest`: with
+-- nothing kept, 10 is the low byte of the latest reading. `by-pointer`: a receive, the alert response apart, is a read of the register at the pointer.
+-- `acknowledged-reads`: what these call a read is acknowledged.
 -- Assumes nothing.
 use mathlib.Core.Path.{_≡_, refl, sym, ap, _∙_}
-use mathlib.Core.Bool.{Bool, true, false, cond, _||_, _&&_, and-true}
+use mathlib.Core.Bool.{Bool, true, false, cond, _||_, _&&_}
 use mathlib.Core.List.{List, [], _∷_}
 use Prim.Native.Nat.{ℕ}
 use lib.Dec.{eqb, leb}
-use borrow.Author.Tests.{eqb-true, eq-eqb}
-use Rattle.laws.proofs.Choices.{clash, and-left, and-right}
+use borrow.Author.Tests.{eqb-true}
+use Rattle.laws.proofs.Choices.{clash, and-left, and-right, or-left}
 use Rattle.temperature.specs.Temperature.{highByteOf, lowByteOf}
 use Rattle.temperature.proofs.Bytes.{eighths-back}
 use Rattle.registers.specs.Page.{R, among}
@@ -19,62 +20,69 @@ use Rattle.device.specs.declared.Event.the-variants.{Write, Read, Send, Receive
 use Rattle.device.specs.Ranges.{variantOf, rangedOf, operandsOf}
 use Rattle.device.specs.Step.{effectOf, steppedOf, stepOf}
 use Rattle.device.specs.Run.{afterOf}
-use Rattle.device.proofs.InRange.{named, kept}
-use Rattle.device.proofs.Steps.{step-effect, step-ind}
-use Rattle.device.proofs.Untouched.{same-variant}
-use Rattle.device_laws.specs.Moves.{ownOf, keptLow, lowAfterRead, lowAfter, registerByte, byteRead}
+use Rattle.device.proofs.InRange.{named}
+use Rattle.device.proofs.Steps.{step-effect, step-ind, ranged-after, variant-after}
+use Rattle.device_laws.specs.Moves.{ownOf, answersAlert, acknowledgedOf, keptLow, lowAfterRead, lowAfter, registerByte, byteRead}
 use Rattle.device_laws.specs.LowByte.{readsOf, movesLow, Between, OneReading}
 use Rattle.device_laws.proofs.Moves.{low-moves, acknowledged-exactly}
 use Rattle.device_laws.proofs.Registers.{byte-exactly}
 
 -- ---- reads
 
-own-address : (d : Device) (a : ℕ) → ownOf d a ≡ true → leb a 0x7F ≡ true
-own-address d a h = ap (λ (x : ℕ). leb x 0x7F) (eqb-true a _ h) ∙ split (eqb (d .variant) 1)
+-- what holds of a read byte of r at the own address, and of a receive there with the pointer at r, holds of every read of r
+reads-ind : (P : Event → Type 0) (d : Device) (r : ℕ)
+    → ((a s : ℕ) → (ownOf d a && eqb s r) ≡ true → P (Read a s))
+    → ((a : ℕ) → (ownOf d a && eqb (d .pointer) r) ≡ true → P (Receive a))
+    → (e : Event) → readsOf d e r ≡ true → P e
+reads-ind P d r read receive (Write a w v) h = clash h
+reads-ind P d r read receive (Read a s) h = read a s h
+reads-ind P d r read receive (Send a s) h = clash h
+reads-ind P d r read receive (Receive a) h = receive a h
+reads-ind P d r read receive (Convert local high low) h = clash h
+reads-ind P d r read receive (Open local) h = clash h
+reads-ind P d r read receive PowerOn h = clash h
+
+reads-operands : (d : Device) (e : Event) (r : ℕ) → readsOf d e r ≡ true → operandsOf e ≡ true
+unfolding operandsOf
+reads-operands d e r =
+    reads-ind (λ (x : Event). operandsOf x ≡ true) d r
+    (λ a s h. own-address a (and-left (ownOf d a) (eqb s r) h))
+    (λ a h. own-address a (and-left (ownOf d a) (eqb (d .pointer) r) h)) e
   where
     split : (t : Bool) → leb (cond t 0x4C 0x4D) 0x7F ≡ true
     split true = refl
     split false = refl
 
-reads-operands : (d : Device) (e : Event) (r : ℕ) → readsOf d e r ≡ true → operandsOf e ≡ true
-unfolding operandsOf
-reads-operands d (Write a w v) r h = clash h
-reads-operands d (Read a s) r h = own-address d a (and-left (ownOf d a) (eqb s r) h)
-reads-operands d (Send a s) r h = clash h
-reads-operands d (Receive a) r h = own-address d a (and-left (ownOf d a) (eqb (d .pointer) r) h)
-reads-operands d (Convert local high low) r h = clash h
-reads-operands d (Open local) r h = clash h
-reads-operands d PowerOn r h = clash h
+    own-address : (a : ℕ) → ownOf d a ≡ true → leb a 0x7F ≡ true
+    own-address a h = ap (λ (x : ℕ). leb x 0x7F) (eqb-true a _ h) ∙ split (eqb (d .variant) 1)
 
--- the byte of such a read is the register's
-reads-byte : (d : Device) (e : Event) (r : ℕ) → among r R ≡ true → readsOf d e r ≡ true → byteRead d e ≡ registerByte d r
-reads-byte d e r m = at-event e
-  where
-    known : (own inside : Bool) (x other : ℕ) → own ≡ true → inside ≡ true → cond (own && inside) x other ≡ x
-    known true true x other h i = refl
-    known true false x other h i = clash i
-    known false inside x other h i = clash h
+module _ (d : Device) (r : ℕ) (readable : among r R ≡ true) where
+  own-readable : (own : Bool) (s : ℕ) → (own && eqb s r) ≡ true → (own && among s R) ≡ true
+  own-readable true s h = ap (λ (x : ℕ). among x R) (eqb-true s r h) ∙ readable
+  own-readable false s h = clash h
 
-    chosen : (own : Bool) (s other : ℕ) → (own && eqb s r) ≡ true → cond (own && among s R) (registerByte d s) other ≡ registerByte d r
-    chosen own s other h =
-        ap (λ (x : ℕ). cond (own && among x R) (registerByte d x) other) (eqb-true s r (and-right own (eqb s r) h))
-        ∙ known own (among r R) (registerByte d r) other (and-left own (eqb s r) h) m
+  -- P10: such a read is acknowledged
+  pub acknowledged-reads : (e : Event) → readsOf d e r ≡ true → effectOf d e .acknowledged ≡ true
+  acknowledged-reads e h =
+      acknowledged-exactly d e
+      ∙ reads-ind (λ (x : Event). acknowledgedOf d x ≡ true) d r
+      (λ a s i. own-readable (ownOf d a) s i)
+      (λ a i. or-left _ (eqb a 0x0C && answersAlert d) (own-readable (ownOf d a) (d .pointer) i)) e h
 
-    at-event : (e : Event) → readsOf d e r ≡ true → byteRead d e ≡ registerByte d r
-    at-event (Write a w v) h = clash h
-    at-event (Read a s) h = chosen (ownOf d a) s _ h
-    at-event (Send a s) h = clash h
-    at-event (Receive a) h = chosen (ownOf d a) (d .pointer) _ h
-    at-event (Convert local high low) h = clash h
-    at-event (Open local) h = clash h
-    at-event PowerOn h = clash h
+  -- and its byte is the register's
+  reads-byte : (e : Event) → readsOf d e r ≡ true → byteRead d e ≡ registerByte d r
+  reads-byte =
+      reads-ind (λ (x : Event). byteRead d x ≡ registerByte d r) d r
+      (λ a s h. chosen (ownOf d a) s _ h) (λ a h. chosen (ownOf d a) (d .pointer) _ h)
+    where
+      known : (t : Bool) (x other : ℕ) → t ≡ true → cond t x other ≡ x
+      known true x other h = refl
+      known false x other h = clash h
 
--- P10: it is acknowledged, and every read byte that is acknowledged is such a read
-pub acknowledged-reads : (d : Device) (a r : ℕ) → effectOf d (Read a r) .acknowledged ≡ (readsOf d (Read a r) r && among r R)
-acknowledged-reads d a r = acknowledged-exactly d (Read a r) ∙ ap (λ (t : Bool). t && among r R) (sym (itself (ownOf d a)))
-  where
-    itself : (own : Bool) → (own && eqb r r) ≡ own
-    itself own = rw (eq-eqb r r refl, and-true own)
+      chosen : (own : Bool) (s other : ℕ) → (own && eqb s r) ≡ true → cond (own && among s R) (registerByte d s) other ≡ registerByte d r
+      chosen own s other h =
+          known (own && among s R) (registerByte d s) other (own-readable own s h)
+          ∙ ap (registerByte d) (eqb-true s r (and-right own (eqb s r) h))
 
 -- a receive, the alert response apart, is a read of the register at the pointer, with the same answers and the same device after it
 pub by-pointer : (d : Device) (a : ℕ) → eqb a 0x0C ≡ false → stepOf d (Receive a) ≡ stepOf d (Read a (d .pointer))
@@ -85,13 +93,7 @@ by-pointer d a h = rw h
 
 -- a read of 01, whatever was kept
 keeps : (d : Device) (e : Event) → readsOf d e 0x01 ≡ true → lowAfter d e ≡ (lowByteOf (d .sensed .remote), true)
-keeps d (Write a w v) h = clash h
-keeps d (Read a r) h = rw h
-keeps d (Send a r) h = clash h
-keeps d (Receive a) h = rw h
-keeps d (Convert local high low) h = clash h
-keeps d (Open local) h = clash h
-keeps d PowerOn h = clash h
+keeps d = reads-ind (λ (x : Event). lowAfter d x ≡ (lowByteOf (d .sensed .remote), true)) d 0x01 (λ a s h. rw h) (λ a h. rw h)
 
 leaves : (d : Device) (e : Event) → movesLow d e ≡ false → lowAfter d e ≡ keptLow d
 leaves d e = at-event e
@@ -128,7 +130,7 @@ abbrev Sound : Device → Type 0
 Sound d = (variantOf (d .variant) ≡ true) × (rangedOf d ≡ true)
 
 sound-step : (d : Device) (e : Event) → Sound d → Sound (stepOf d e .device)
-sound-step d e s = step-ind Sound d e s (ap variantOf (same-variant d e) ∙ s .0, kept d e (s .1))
+sound-step d e s = (variant-after d e (s .0), ranged-after d e (s .1))
 
 sound-after : (d : Device) (es : List Event) → Sound d → Sound (afterOf d es)
 sound-after d [] s = s
@@ -139,7 +141,7 @@ module _ (d : Device) (s : Sound d) (e : Event) where
   read-step r h = step-effect d e (s .0) (s .1) (reads-operands d e r h)
 
   read-second : (r : ℕ) → among r R ≡ true → readsOf d e r ≡ true → stepOf d e .second ≡ registerByte d r
-  read-second r m h = ap (λ (t : Stepped). t .second) (read-step r h) ∙ byte-exactly d e (s .0) ∙ reads-byte d e r m h
+  read-second r m h = ap (λ (t : Stepped). t .second) (read-step r h) ∙ byte-exactly d e (s .0) ∙ reads-byte d r m e h
 
   read-code : (r : ℕ) → readsOf d e r ≡ true → stepOf d e .code ≡ 0
   read-code r h = ap (λ (t : Stepped). t .code) (read-step r h)

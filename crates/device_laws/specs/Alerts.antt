@@ -23,6 +23,7 @@ pub record Responds (d : Device) (o : Outcome) : Type 0 where
   pub variant : o .device .variant ≡ d .variant
   pub pointer : o .device .pointer ≡ d .pointer
   pub pending : o .device .pending ≡ d .pending
+  -- request a: it keeps no low byte and lets none go
   pub low : o .device .low ≡ d .low
   pub lowkept : o .device .lowkept ≡ d .lowkept
   pub status : o .device .status ≡ d .status
@@ -39,6 +40,7 @@ pub record StatusRead (d : Device) (o : Outcome) : Type 0 where
   pub variant : o .device .variant ≡ d .variant
   pub pointer : o .device .pointer ≡ 0x02
   pub pending : o .device .pending ≡ d .pending
+  -- request a: it keeps no low byte and lets none go
   pub low : o .device .low ≡ d .low
   pub lowkept : o .device .lowkept ≡ d .lowkept
   -- latches and live byte too

@@ -14,8 +14,7 @@ use Rattle.device.specs.declared.Event.the-variants.{Write, Read, Send, Receive
 use Rattle.device.specs.Step.{stepOf}
 use Rattle.device_laws.specs.Moves.{ownOf}
 
--- a read of register r, which is in R, that is acknowledged: a read byte at the device's own address, or a receive there with the pointer
--- at r
+-- for r in R, an acknowledged read of r: a read byte at the device's own address, or a receive there with the pointer at r
 abbrev pub readsOf : Device → Event → ℕ → Bool
 readsOf d (Write a w v) r = false
 readsOf d (Read a s) r = ownOf d a && eqb s r

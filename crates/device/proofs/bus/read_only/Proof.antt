@@ -49,7 +49,7 @@ returns-2 : tie.Need-returns-2
 unfolding afterReadOf readOnlyValueOf
 returns-2 c =
     let kept = c .before .before .before in
-    let told : SFits w16 (kept .before .before .before .args .n .sensed .remote) = search needs in
+    let told : SFits w16 (kept .before .before .before .args .d .sensed .remote) = search needs in
     rw (c .answered2 .ensures, c .before .high-byte .ensures, toZ-ofZ told, kept .low-kept .ensures, kept .before .match .keys2)
 
 returns-3 : tie.Need-returns-3
