@@ -1,6 +1,6 @@
 /*
  * The remote temperature in its two bytes, as firmware reads it: the high byte, 01, first, then the low byte, 10. A conversion
- * that falls between the two reads does not tear the pair.
+ * that falls between the two reads does not tear the pair. examples/bench.c shows the test of the library's version.
  */
 #include <stdio.h>
 #include <stdlib.h>
@@ -50,5 +50,9 @@ int main(void)
     high = read_byte(&device, LM89_READ_REMOTE);
     low = read_byte(&device, LM89_READ_REMOTE_LOW_BYTE);
     show("second pair", high, low);
+    convert(&device, 0xFF, 0xE0);                                /* an eighth below 0: the high byte is -1, the low byte 7 eighths */
+    high = read_byte(&device, LM89_READ_REMOTE);
+    low = read_byte(&device, LM89_READ_REMOTE_LOW_BYTE);
+    show("third pair", high, low);
     return fclose(stdout) == 0 ? 0 : 1;
 }

@@ -72,11 +72,12 @@ enum {
  * low byte of the reading as it stands, in place of one kept before; the next read of the second gives the kept byte and lets it go. So the
  * two bytes are of one reading, though conversions fall between. With none kept the second gives the low byte of the latest reading. A
  * receive at the device's own address with the pointer there is such a read; nothing else but power-on, which lets go, moves a kept byte.
- * Low byte first is the wrong order, after a one-shot too: each low byte is then the one kept at the read of the pair before.
+ * Low byte first is the wrong order, after a one-shot too, where the data sheet allows it: each low byte but the first is that of the pair
+ * before. A low byte read alone is that of the last read of LM89_READ_REMOTE, however old, if it was not read since.
  */
 enum {
     LM89_READ_LOCAL = 0x00,             /* local reading, degrees */
-    LM89_READ_REMOTE = 0x01,            /* remote reading, high byte: degrees; reading keeps the low byte for LM89_READ_REMOTE_LOW_BYTE */
+    LM89_READ_REMOTE = 0x01,            /* remote reading, high byte: degrees; a read keeps the low byte for LM89_READ_REMOTE_LOW_BYTE */
     LM89_READ_STATUS = 0x02,            /* LM89_STATUS_...; reading clears it, and may set LM89_CONFIGURATION_ALERT_MASK */
     LM89_READ_CONFIGURATION = 0x03,     /* LM89_CONFIGURATION_... */
     LM89_READ_RATE = 0x04,              /* conversion rate, kept without effect */
@@ -84,7 +85,7 @@ enum {
     LM89_READ_LOCAL_LOW_LIMIT = 0x06,
     LM89_READ_REMOTE_HIGH_LIMIT = 0x07, /* high byte */
     LM89_READ_REMOTE_LOW_LIMIT = 0x08,  /* high byte */
-    LM89_READ_REMOTE_LOW_BYTE = 0x10,   /* remote reading, low byte, eighths in its top three bits: the kept one, else the latest; reading lets go */
+    LM89_READ_REMOTE_LOW_BYTE = 0x10,   /* remote reading, low byte, eighths in its top three bits: the kept one, else the latest; a read lets go */
     LM89_READ_MANUFACTURER = 0xFE,      /* 01h */
     LM89_READ_REVISION = 0xFF,          /* 31h, 34h, 35h in order of LM89_VARIANT_... */
 

@@ -1,6 +1,6 @@
-/* Second implementation of documents 01 (01-scope.md) and 02 (request a of
- * 02-change-requests.md, as REQUESTS.md reads it), written from their words, the
- * two datasheets and the comments of lm89.h alone.  The core: no allocation, no
+/* Second implementation of document 01 (01-scope.md) and of request a of
+ * document 02 (02-change-requests.md), written from their words, the two
+ * datasheets and the comments of lm89.h alone.  The core: no allocation, no
  * changing globals, every function total. */
 #ifndef SECOND_H
 #define SECOND_H

@@ -77,7 +77,8 @@ streamed() {
 
 # The example of a pair of reads with a conversion between: 31 E0 is 399 eighths, 32 00 is 400.
 paired() {
-    printf '%s\n' 'first pair: 31 E0, 399 eighths, 49.875 degrees' 'second pair: 32 00, 400 eighths, 50.000 degrees' >build/counted
+    printf '%s\n' 'first pair: 31 E0, 399 eighths, 49.875 degrees' 'second pair: 32 00, 400 eighths, 50.000 degrees' \
+        'third pair: FF E0, -1 eighths, -0.125 degrees' >build/counted
     run build/pair >build/listed || stop "examples/pair.c failed, see above"
     same build/counted build/listed "examples/pair.c shows another pair"
     printf 'c: pair ok\n'

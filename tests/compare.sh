@@ -75,9 +75,9 @@ else
 fi
 printf 'second/ and %s:\n' "$other"
 python3 tests/compare/compare.py "$here/second" "$other" "${streams[@]}" ||
-    stop "second/ and '$other' disagree, see above: document 01 says which is wrong"
+    stop "second/ and '$other' disagree, see above: documents 01 and 02 say which is wrong"
 python3 tests/compare/listings.py "$here/second-listing" 'build/bin/lm89 list' "$here/listed.stream" ||
-    stop "the two listings disagree, see above: document 01 says which is wrong"
+    stop "the two listings disagree, see above: documents 01 and 02 say which is wrong"
 python3 tests/compare/covered.py "${streams[@]}" ||
     stop "something never occurred, see above: add it to tests/compare/streams.c"
 measure_lines

@@ -482,9 +482,9 @@ static bool out_of_range(lm89_device device)
 static void test_zeros(void)
 {
     lm89_device device = zeros();
-    static const uint8_t zero[sizeof device];
+    lm89_device zero = zeros();
     CHECK(is(lm89_step(&device, LM89_KIND_READ, HERE, 0x00, 0), LM89_CODE_RANGE, 0, 0));
-    CHECK(memcmp(&device, zero, sizeof zero) == 0);
+    CHECK(same(&device, &zero));
     CHECK(out_of_range(device));
 }
 
@@ -527,8 +527,8 @@ static void test_low_ranges(void)
         lm89_device device = with_low(false, LM89_READ_REMOTE_LOW_BYTE);
         device.low = (uint8_t)i;
         device.lowkept = i >= 256;
-        bool kept = device.lowkept && memchr(multiples, device.low, sizeof multiples) != NULL;
-        if (!kept && (device.lowkept || device.low != 0)) {
+        bool fits = device.lowkept && memchr(multiples, device.low, sizeof multiples) != NULL;
+        if (!fits && (device.lowkept || device.low != 0)) {
             CHECK(out_of_range(device));
             continue;
         }

@@ -197,14 +197,16 @@ module _ (d : Device) (t : List ℕ) (h : blanked (d .settings) ≡ blanked t) w
       split true false e c = clash (sym e)
       split false true e c = clash e
 
+  -- what a read leaves, by the register that it is of
+  abbrev leftOf : Bool → Bool → Bool → Device → Device
+  leftOf one two ten e = cond one (lowKeptOf e) (cond two (statusReadOf e) (cond ten (lowLetGoOf e) e))
+
   -- request a: what is kept, and let go, is no setting's
   read-alike : (r : ℕ) → Alike (afterReadOf (pointedOf d r) r) (afterReadOf (pointedOf other r) r)
   unfolding afterReadOf
   read-alike r = split (eqb r 0x01) (eqb r 0x02) (eqb r 0x10)
     where
-      split : (one two ten : Bool)
-          → Alike (cond one (lowKeptOf (pointedOf d r)) (cond two (statusReadOf (pointedOf d r)) (cond ten (lowLetGoOf (pointedOf d r)) (pointedOf d r))))
-          (cond one (lowKeptOf (pointedOf other r)) (cond two (statusReadOf (pointedOf other r)) (cond ten (lowLetGoOf (pointedOf other r)) (pointedOf other r))))
+      split : (one two ten : Bool) → Alike (leftOf one two ten (pointedOf d r)) (leftOf one two ten (pointedOf other r))
       split true two ten = ap (λ (l : List ℕ). readOutOf (setUpOf d r (d .pending) l) (d .status) (latestLowOf d) true) h
       split false true ten = status-read-alike r
       split false false true = ap (λ (l : List ℕ). readOutOf (setUpOf d r (d .pending) l) (d .status) 0 false) h
