@@ -1,10 +1,11 @@
 """What steps, feeds and runs show of request a: a read of 01 keeps the low byte, the next read of 10 gives it and lets go."""
 import calls
 import ranges
-from ranges import LOW, LOW_BYTES, LOW_KEPT
+from ranges import DEVICE, LOW, LOW_BYTES, LOW_KEPT
 
 HIGH_BYTE, STATUS, LOW_BYTE = 0x01, 0x02, 0x10
 ALERT_RESPONSE = 0x0C
+READER_LOW_KEPT, READER_POINTER = DEVICE + LOW_KEPT, DEVICE + 1  # where a reader has these fields of its device
 BUS_KINDS = ("write", "read", "send", "receive")
 WAYS = ("read", "receive")
 ANY_OTHER = "another register"
@@ -197,6 +198,7 @@ class Records:
         self.first = None  # how 01 was read, or "set" for a reader that was set with a byte kept; None where nothing is kept
         self.between = set()  # the sorts of event since
         self.given = False  # whether the last read of 10 gave a kept byte, and 01 was not read since
+        self.lost = False  # whether a power-on came after a read of 01, and neither 01 nor 10 was read since
 
     def count(self, what):
         self.table.count(f"a {self.name}: {what}")
@@ -226,9 +228,9 @@ class Records:
             self.pointer = record[2]
 
     def see_keep(self, way):
-        if self.first:
+        if self.first in WAYS:
             self.count("01 read again before 10")
-        self.first, self.between, self.given = way, set(), False
+        self.first, self.between, self.given, self.lost = way, set(), False, False
 
     def see_low_read(self, way):
         if self.first in WAYS:
@@ -239,12 +241,13 @@ class Records:
             self.count("byte kept in a reader that was set, read at 10")
         else:
             self.count("second read of 10" if self.given else "10 read with nothing kept")
+        if self.lost:
+            self.count("power-on between 01 and 10")
         self.given = self.first is not None
-        self.first = None
+        self.first, self.lost = None, False
 
     def see_power_on(self):
-        if self.first:
-            self.count("power-on between 01 and 10")
+        self.lost |= self.first in WAYS
         self.first, self.given = None, False
 
 
@@ -260,33 +263,37 @@ def see_run(table, capture, first_answers):
 
 
 class Feeds(Records):
-    """Follows the feeds of one reader. A reader's device begins at its byte 14."""
+    """Follows the feeds of one reader."""
 
     def __init__(self, table):
         super().__init__(table, "feed")
+        self.cut = False  # whether the last feed with bytes ended with code 0
 
     def set_reader(self, reader):
         """A reader that was set, or a fresh one."""
-        self.first = "set" if reader[14 + LOW_KEPT] else None
-        self.between, self.given = set(), False
+        self.first = "set" if reader[READER_LOW_KEPT] else None
+        self.between, self.given, self.lost, self.cut = set(), False, False, False
 
     def see_feed(self, before, part, code, consumed, answers, after):
         """A feed whose reader was within its ranges and held no code."""
         if before[0] < 2 <= after[0]:
             self.see_variant(before, after)
         self.between.add("cut")
-        self.begin(after[14], before[15] if before[0] >= 2 else 0)
+        self.begin(after[DEVICE], before[READER_POINTER] if before[0] >= 2 else 0)
+        within = self.cut and before[0] == calls.HEADER_BYTES
         records = before[10 : 10 + before[9]] + part[max(0, calls.HEADER_BYTES - before[0]) :]
         for number in range(len(answers) // 2):
             at = calls.RECORD_BYTES * number
             reads = self.see(records[at : at + calls.RECORD_BYTES], answers[2 * number])
-            if reads and number == 0 and before[14 + LOW_KEPT]:
+            if reads and number == 0 and within and before[READER_LOW_KEPT]:
                 self.count(f"cut after {before[9]} bytes of the record that reads 10")
         if code == 7:
-            self.see_no_room(after[10:13] + part[consumed : consumed + 1], after[14:])
+            self.see_no_room(after[10:13] + part[consumed : consumed + 1], after[DEVICE:])
+        if part:
+            self.cut = code == 0
 
     def see_variant(self, before, after):
-        if before[14 + LOW_KEPT] and after[0] < calls.HEADER_BYTES and not after[14 + LOW_KEPT]:
+        if before[READER_LOW_KEPT] and after[0] < calls.HEADER_BYTES and not after[READER_LOW_KEPT]:
             self.count("a variant byte lets go")
         self.first = None
 

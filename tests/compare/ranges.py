@@ -7,6 +7,7 @@ SETTINGS = bytes.fromhex("090A0B0C0D0E11121314192021BF")
 KEPT = bytes.fromhex("D5FFFFFFFFFFFFE0E0E0FFFF1F07")
 STANDBY = 0x40
 LOW, LOW_KEPT = 25, 26  # the last two bytes of a device
+DEVICE = 14  # where the device begins in a reader
 DROPPED = bytes(0xFF - kept for kept in KEPT)
 OUTSIDE = sorted(set(range(256)) - set(READABLE) - set(WRITABLE))
 
@@ -161,8 +162,8 @@ def reader_faults(reader):
     for place in range(carried, 3):
         if reader[10 + place]:
             faults.append(f"{carried} bytes carried, place {place + 1} not 0, out of range")
-    if header >= 2 and not 1 <= reader[14] <= 3:
-        faults.append(f"{stage}, variant {told(reader[14], False)}")
+    if header >= 2 and not 1 <= reader[DEVICE] <= 3:
+        faults.append(f"{stage}, variant {told(reader[DEVICE], False)}")
     if header < 6 and count >= 256 ** max(0, header - 2):
         faults.append(f"{stage}, count one too great" if count == 256 ** max(0, header - 2) else "count")
     if header < 6 and done:
@@ -177,7 +178,7 @@ def reader_faults(reader):
 def see_reader(table, name, reader, code):
     """A reader that was set, and a feed or a finish asked of it."""
     faults = reader_faults(reader)
-    device = reader[14:]
+    device = reader[DEVICE:]
     in_device = device_faults(device)
     if not faults:
         see_device(table, name, device, in_device, code)
@@ -192,7 +193,7 @@ def see_reader_in_range(table, name, reader):
     count, done = calls.number(reader[1:5]), calls.number(reader[5:9])
     table.count(f"{name}: {header} header bytes in range")
     for value, fits in VARIANT_ENDS:
-        if reader[14] == value:
+        if reader[DEVICE] == value:
             table.count(f"{name}: {header} header bytes, variant {told(value, fits or header < 2)}")
     if header < 6 and count == 256 ** max(0, header - 2) - 1:
         table.count(f"{name}: {header} header bytes, greatest count in range")

@@ -141,7 +141,7 @@ def need(table):
     table.need_all("registers: send refused, each outside R and W", ranges.OUTSIDE)
     table.need_all("registers: FFh written, each settable byte", SETTINGS)
     table.need_all("registers: FF read, each variant", (1, 2, 3))
-    table.need_all("registers: low byte of the reading, each of eight", range(0, 256, 32))
+    table.need_all("registers: byte read at 10, each of eight", range(0, 256, 32))
     table.need_all("power-on, each variant", (1, 2, 3))
 
 
@@ -399,7 +399,7 @@ class Steps:
         if register == 0x02:
             self.see_status_read(how, before, after)
         if register == 0x10:
-            self.table.count_value("registers: low byte of the reading, each of eight", value)
+            self.table.count_value("registers: byte read at 10, each of eight", value)
         if register == 0xFF:
             self.table.count_value("registers: FF read, each variant", before[0])
 
