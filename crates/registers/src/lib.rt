@@ -40,7 +40,7 @@ pub const HYSTERESIS: usize = 12;
 
 pub const FILTER_ALERT: usize = 13;
 
-// Numbers of the registers that are no settings: the readings, status and the one-shot.
+// Numbers of registers that are no settings: the readings, status and the one-shot.
 pub const LOCAL: u8 = 0x00;
 
 pub const REMOTE: u8 = 0x01;
