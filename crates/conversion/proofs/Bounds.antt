@@ -13,9 +13,10 @@ unfolding countOf
 count-bound n true = omega arith
 count-bound n false = zero-le
 
-bit-bound : (on : Bool) (bit : ℕ) → bit < 2 ^ 7 → bitOf on bit < 2 ^ 7
+-- a bit of a byte, on or off, is below whatever the bit is below
+pub bit-bound : (on : Bool) (bit : ℕ) {limit : ℕ} → bit < limit → bitOf on bit < limit
 bit-bound true bit h = h
-bit-bound false bit h = lit< tt
+bit-bound false bit h = omega arith
 
 pub live-bound : (l r : Out) (broken : Bool) → liveOf l r broken < 2 ^ 7
 unfolding liveOf

@@ -7,6 +7,7 @@ use mathlib.Core.List.{List}
 use lib.IntN.{ℤ}
 use lib.Dec.{ltb}
 use lib.Bits.{bitOr}
+use Rattle.temperature.specs.declared.Reading.{Reading}
 use Rattle.temperature.specs.Temperature.{eighthsOf, heldSumOf, aboveOf, belowOf, clearedOf}
 use Rattle.registers.specs.Bits.{has, LHIGH, LLOW, RHIGH, RLOW, OPEN, RCRIT, LCRIT, faultQueue}
 use Rattle.registers.specs.Page.{settingOf}
@@ -14,9 +15,9 @@ use Rattle.conversion.specs.declared.Sensed.{Sensed}
 use Rattle.conversion.specs.declared.Limits.{Limits}
 use Rattle.conversion.specs.declared.Out.{Out}
 
--- ---- P2: the remote reading, from the sample's bytes and the offset in 11 and 12
+-- ---- P2, request b: the remote reading, from the sample's bytes and the offset in 11 and 12, and whether it was held
 
-unfoldable pub readingOf : List ℕ → ℕ → ℕ → ℤ
+unfoldable pub readingOf : List ℕ → ℕ → ℕ → Reading
 readingOf s high low = heldSumOf high low (settingOf s 0x11) (settingOf s 0x12)
 
 -- ---- P3: limits, in eighths; a T_CRIT is its two's complement byte times 8

@@ -2,6 +2,7 @@
 ghost use mathlib.Core.Path.{_≡_};
 ghost use Rattle.conversion.specs.Conversion.{readingOf, localLimitsOf, remoteLimitsOf, outOf, anyOf, countOf, queuedOf, shownOf, bitOf, liveOf, latchOf, sensedOf};
 use registers::bits;
+use temperature::Reading;
 
 // All that only conversions and power-on move. Readings: remote in eighths; local in degrees, a byte. No padding but at the end.
 #[repr(C)]
@@ -29,7 +30,7 @@ pub struct Out {
 }
 
 // P2: the remote reading of a sample.
-pub fn reading(s: [u8; 14], high: u8, low: u8) -> i16
+pub fn reading(s: [u8; 14], high: u8, low: u8) -> Reading
     ensures { λ r. ⌜ r ≡ readingOf s high low ⌝ }
 {
     temperature::held_sum(high, low, s[registers::OFFSET], s[registers::OFFSET_PART])

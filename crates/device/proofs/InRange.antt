@@ -15,6 +15,7 @@ use lib.ListN.{getD, set}
 use borrow.Author.Tests.{lt-ltb, ltb-true, le-leb, eq-eqb, eqb-true}
 use Rattle.laws.proofs.Choices.{cond-ind, or-left}
 use Rattle.laws.proofs.Tables.{agree}
+use Rattle.temperature.specs.declared.Reading.{Reading}
 use Rattle.temperature.specs.Temperature.{degreesOf, eighthsOf, openReading, wordOf}
 use Rattle.temperature.proofs.Laws.{held-scale}
 use Rattle.registers.specs.Bits.{has}
@@ -306,9 +307,9 @@ module _ {d : Device} (r : Ranged d) where
   unfolding respondOf
   respond-ranged = cond-ind After (respondsOf d) (λ _. masked-ranged r) (λ _. r)
 
-  sense-ranged : (local : ℕ) (remote : ℤ) (broken : Bool) → mag remote < 1024 → After (senseOf d local remote broken)
+  sense-ranged : (local : ℕ) (remote : Reading) (broken : Bool) → mag (remote .eighths) < 1024 → After (senseOf d local remote broken)
   unfolding senseOf
-  sense-ranged local remote broken h = cond-ind After (takesOf d) (λ _. converted-ranged d local remote broken h r) (λ _. r)
+  sense-ranged local remote broken h = cond-ind After (takesOf d) (λ _. converted-ranged d local (remote .eighths) broken h r) (λ _. r)
 
   at-ranged : (address : ℕ) (own : Outcome) → After own → After (atOf d address own)
   at-ranged address own h = cond-ind After (eqb address (addressOf (d .variant))) (λ _. h) (λ _. r)

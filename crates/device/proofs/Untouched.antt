@@ -5,16 +5,16 @@
 use mathlib.Core.Path.{_≡_, refl}
 use mathlib.Core.Bool.{Bool, true, false, cond}
 use Prim.Native.Nat.{ℕ}
-use lib.IntN.{ℤ}
 use lib.Dec.{eqb}
 use Rattle.laws.proofs.Choices.{cond-ind}
+use Rattle.temperature.specs.declared.Reading.{Reading}
 use Rattle.registers.specs.Page.{readableOf, writableOf, knownOf, oneShot, addressOf}
 use Rattle.device.specs.declared.Device.{Device}
 use Rattle.device.specs.declared.Outcome.{Outcome}
 use Rattle.device.specs.declared.Event.{Event}
 use Rattle.device.specs.declared.Event.the-variants.{Write, Read, Send, Receive, Convert, Open, PowerOn}
 use Rattle.device.specs.Bus.{silentOf, pointedOf, maskedOf, storedOf, firedOf, putOf, statusClearedOf, getOf, pointOf}
-use Rattle.device.specs.Bus.{respondsOf, respondOf, takesOf, convertedOf, senseOf, poweredOf, alertResponse, atOf}
+use Rattle.device.specs.Bus.{respondsOf, respondOf, takesOf, convertedOf, takingOf, senseOf, poweredOf, alertResponse, atOf}
 use Rattle.device.specs.Profile.{OnBus, AtAnother, OutsideProfile}
 use Rattle.device.specs.Step.{effectOf}
 use Rattle.device.proofs.AfterRead.{read-ind}
@@ -136,11 +136,11 @@ untaken d local h = (λ high low. rw h, rw h)
 
 -- ---- the variant
 
-sense-variant : (d : Device) (local : ℕ) (remote : ℤ) (broken : Bool) → senseOf d local remote broken .device .variant ≡ d .variant
+sense-variant : (d : Device) (local : ℕ) (remote : Reading) (broken : Bool) → senseOf d local remote broken .device .variant ≡ d .variant
 unfolding senseOf convertedOf
 sense-variant d local remote broken = split (takesOf d)
   where
-    split : (t : Bool) → cond t (record { device = convertedOf d local remote broken; acknowledged = false; taken = true; byte = 0 }) (silentOf d) .device .variant ≡ d .variant
+    split : (t : Bool) → cond t (takingOf d local remote broken) (silentOf d) .device .variant ≡ d .variant
     split true = refl
     split false = refl
 

@@ -8,6 +8,7 @@ use mathlib.Core.List.{List, [], _∷_}
 use lib.IntN.{ℤ, pos}
 use lib.Dec.{eqb}
 use lib.Bits.{bitAnd, bitOr}
+use Rattle.temperature.specs.declared.Reading.{Reading}
 use Rattle.temperature.specs.Temperature.{eighthsOf, highByteOf, lowByteOf}
 use Rattle.registers.specs.Bits.{has, alerting, alertMask, standby}
 use Rattle.registers.specs.Page.{readableOf, writableOf, knownOf, oneShot, settableOf, settingOf, changedOf, readAtOf, keptOf, powerOnOf, readOnlyOf, addressOf}
@@ -19,13 +20,13 @@ use Rattle.device.specs.Pins.{configurationOf, comparatorOf, alertOf}
 
 -- ---- what an outcome is
 
--- this device after the event; not acknowledged, no conversion taken, no byte read
+-- this device after the event; not acknowledged, no conversion taken, no reading held, no byte read
 abbrev pub silentOf : Device → Outcome
-silentOf d = record { device = d; acknowledged = false; taken = false; byte = 0 }
+silentOf d = record { device = d; acknowledged = false; taken = false; held = false; byte = 0 }
 
 -- acknowledged, with the byte read or 0
 abbrev pub answeredOf : Device → ℕ → Outcome
-answeredOf d byte = record { device = d; acknowledged = true; taken = false; byte = byte }
+answeredOf d byte = record { device = d; acknowledged = true; taken = false; held = false; byte = byte }
 
 -- ---- how a device changes
 
@@ -185,10 +186,14 @@ gatheredOf d n =
 unfoldable pub convertedOf : Device → ℕ → ℤ → Bool → Device
 convertedOf d local remote diodeOpen = gatheredOf d (sensedOf (d .settings) (d .sensed) local remote diodeOpen)
 
+-- a taken conversion; request b: its outcome tells whether the reading was held, the device keeps the reading alone
+abbrev pub takingOf : Device → ℕ → Reading → Bool → Outcome
+takingOf d local remote diodeOpen =
+    record { device = convertedOf d local (remote .eighths) diodeOpen; acknowledged = false; taken = true; held = remote .held; byte = 0 }
+
 -- P11: a conversion not taken changes nothing
-unfoldable pub senseOf : Device → ℕ → ℤ → Bool → Outcome
-senseOf d local remote diodeOpen =
-    cond (takesOf d) (record { device = convertedOf d local remote diodeOpen; acknowledged = false; taken = true; byte = 0 }) (silentOf d)
+unfoldable pub senseOf : Device → ℕ → Reading → Bool → Outcome
+senseOf d local remote diodeOpen = cond (takesOf d) (takingOf d local remote diodeOpen) (silentOf d)
 
 -- ---- power-on
 

@@ -14,14 +14,14 @@ use Rattle.device.specs.Pins.{pinsOf, firstOf}
 use Rattle.device.specs.Bus.{silentOf, putOf, getOf, pointOf, alertResponse, respondOf, senseOf, poweredOf, atOf}
 use Rattle.device.specs.Ranges.{variantOf, rangedOf, operandsOf}
 
--- the device after, acknowledged, conversion taken, byte read
+-- the device after, acknowledged, conversion taken, reading held, byte read
 unfoldable pub effectOf : Device → Event → Outcome
 effectOf d (Write address w v) = atOf d address (putOf d w v)
 effectOf d (Read address r) = atOf d address (getOf d r)
 effectOf d (Send address r) = atOf d address (pointOf d r)
 -- P9: a receive from 0C is the alert response; P10: any other uses the pointer
 effectOf d (Receive address) = cond (eqb address alertResponse) (respondOf d) (atOf d address (getOf d (d .pointer)))
--- P2: the reading is the sample plus the offset, held; with an open diode it is 127 degrees, and OPEN
+-- P2: the reading is the sample plus the offset, held; with an open diode it is 127 degrees, and OPEN; request b: whether it was held comes with it
 effectOf d (Convert local high low) = senseOf d local (readingOf (d .settings) high low) false
 effectOf d (Open local) = senseOf d local openReading true
 -- power-on keeps the variant and nothing else
@@ -29,7 +29,7 @@ effectOf d PowerOn = silentOf (poweredOf (d .variant))
 
 -- the first answer byte of an outcome, with the pins as they stand after the event; the second is the byte read
 unfoldable pub answerOf : Outcome → ℕ
-answerOf o = firstOf (pinsOf (o .device)) (o .acknowledged) (o .taken)
+answerOf o = firstOf (pinsOf (o .device)) (o .acknowledged) (o .taken) (o .held)
 
 -- a refusal: answer bytes 0, nothing changed
 abbrev pub refusedOf : Device → ℕ → Stepped

@@ -1,4 +1,4 @@
-// P6, P9 to P11 and request a: the bus, conversions and power-on.
+// P6, P9 to P11 and requests a and b: the bus, conversions and power-on.
 ghost use mathlib.Core.Path.{_≡_};
 ghost use Rattle.registers.specs.Page.{writePositionOf};
 ghost use Rattle.registers.specs.declared.Position.the-variants.{At};
@@ -14,6 +14,7 @@ use super::outputs;
 use conversion::Sensed;
 use registers::Position;
 use registers::bits;
+use temperature::Reading;
 
 const ALERT_RESPONSE: u8 = 0x0C;
 
@@ -24,6 +25,7 @@ pub(crate) fn silent(d: Device) -> Outcome
         device: d,
         acknowledged: false,
         taken: false,
+        held: false,
         byte: 0,
     }
 }
@@ -35,6 +37,7 @@ fn answered(d: Device, byte: u8) -> Outcome
         device: d,
         acknowledged: true,
         taken: false,
+        held: false,
         byte,
     }
 }
@@ -214,16 +217,17 @@ fn converted(d: Device, local: u8, remote: i16, broken: bool) -> Device
 }
 
 // A conversion, taken or not.
-pub(crate) fn sense(d: Device, local: u8, remote: i16, broken: bool) -> Outcome
+pub(crate) fn sense(d: Device, local: u8, remote: Reading, broken: bool) -> Outcome
     ensures { λ r. ⌜ r ≡ senseOf d local remote broken ⌝ }
 {
     if !takes(d) {
         return silent(d);
     }
     Outcome {
-        device: converted(d, local, remote, broken),
+        device: converted(d, local, remote.eighths, broken),
         acknowledged: false,
         taken: true,
+        held: remote.held,
         byte: 0,
     }
 }
@@ -279,7 +283,7 @@ pub(crate) fn asked(d: Device, e: Event) -> Asked
             let s = d.settings;
             Asked::Sense(local, conversion::reading(s, high, low), false)
         }
-        Event::Open(local) => Asked::Sense(local, temperature::OPEN_READING, true),
+        Event::Open(local) => Asked::Sense(local, temperature::open_reading(), true),
         Event::PowerOn => Asked::Restart,
     }
 }

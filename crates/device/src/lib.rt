@@ -3,6 +3,7 @@ ghost use mathlib.Core.Path.{_≡_};
 ghost use Rattle.device.specs.Step.{effectOf, answerOf, stepOf, refusedOf};
 ghost use Rattle.device.specs.Asking.{doneOf};
 use conversion::Sensed;
+use temperature::Reading;
 
 pub mod bus;
 pub mod outputs;
@@ -38,16 +39,17 @@ pub enum Asked {
     Get(u8),
     Point(u8),
     Respond,
-    Sense(u8, i16, bool),
+    Sense(u8, Reading, bool),
     Restart,
     Nothing,
 }
 
-// What an event does: the device after it, and the byte read or 0.
+// What an event does: the device after it, whether a reading was held to the scale, and the byte read or 0.
 pub struct Outcome {
     pub device: Device,
     pub acknowledged: bool,
     pub taken: bool,
+    pub held: bool,
     pub byte: u8,
 }
 
@@ -90,7 +92,7 @@ pub fn answer(o: Outcome) -> u8
     ensures { λ r. ⌜ r ≡ answerOf o ⌝ }
 {
     let d = o.device;
-    outputs::first(outputs::pins(d), o.acknowledged, o.taken)
+    outputs::first(outputs::pins(d), o.acknowledged, o.taken, o.held)
 }
 
 fn refused(d: Device, code: u8) -> Stepped

@@ -16,7 +16,7 @@ use Rattle.laws.proofs.Choices.{by-test, clash}
 use Rattle.laws.proofs.Tables.{agree}
 use Rattle.registers.specs.Bits.{has, alerting}
 use Rattle.registers.specs.Page.{readableOf, settableOf, settingOf, changedOf, addressOf}
-use Rattle.conversion.specs.Conversion.{bitOf}
+use Rattle.conversion.proofs.Bounds.{bit-bound}
 use Rattle.device_laws.proofs.Bits.{has-or, bit-of}
 use Rattle.device.specs.declared.Device.{Device}
 use Rattle.device.specs.declared.Outcome.{Outcome}
@@ -112,6 +112,7 @@ module _ (d : Device) where
         acknowledged = rw (answers, e);
         byte = rw answers;
         taken = rw answers;
+        held = rw answers;
         variant = rw answers;
         pointer = rw answers;
         pending = rw answers;
@@ -128,6 +129,7 @@ module _ (d : Device) where
         acknowledged = rw (silent, e);
         byte = rw silent;
         taken = rw silent;
+        held = rw silent;
         variant = rw silent;
         pointer = rw silent;
         pending = rw silent;
@@ -164,6 +166,7 @@ module _ (d : Device) where
         acknowledged = refl;
         byte = refl;
         taken = refl;
+        held = refl;
         cleared = rw sets;
         variant = rw sets;
         pointer = rw sets;
@@ -180,6 +183,7 @@ module _ (d : Device) where
         acknowledged = refl;
         byte = refl;
         taken = refl;
+        held = refl;
         cleared = rw leaves;
         variant = rw leaves;
         pointer = rw leaves;
@@ -199,36 +203,35 @@ module _ (d : Device) where
 
 -- ---- the first answer byte
 
-module _ (alert tcrit acknowledged taken : Bool) where
-  four : (mask : ℕ) → has (firstOf (record { alert = alert; tcrit = tcrit }) acknowledged taken) mask
-      ≡ ((((alert && has 0x01 mask) || (tcrit && has 0x02 mask)) || (acknowledged && has 0x04 mask)) || (taken && has 0x08 mask))
+module _ (alert tcrit acknowledged taken held : Bool) where
+  five : (mask : ℕ) → has (firstOf (record { alert = alert; tcrit = tcrit }) acknowledged taken held) mask
+      ≡ (((((alert && has 0x01 mask) || (tcrit && has 0x02 mask)) || (acknowledged && has 0x04 mask)) || (taken && has 0x08 mask)) || (held && has 0x10 mask))
   unfolding firstOf
-  four mask = simp (has-or, bit-of)
+  five mask = simp (has-or, bit-of)
 
-  within-four : firstOf (record { alert = alert; tcrit = tcrit }) acknowledged taken < 2 ^ 4
+  within-five : firstOf (record { alert = alert; tcrit = tcrit }) acknowledged taken held < 2 ^ 5
   unfolding firstOf
-  within-four =
-      or-lt 4 _ _ (or-lt 4 _ _ (or-lt 4 _ _ (bit-below alert 0x01 (lit< tt)) (bit-below tcrit 0x02 (lit< tt))) (bit-below acknowledged 0x04 (lit< tt)))
-      (bit-below taken 0x08 (lit< tt))
-    where
-      bit-below : (on : Bool) (bit : ℕ) → bit < 2 ^ 4 → bitOf on bit < 2 ^ 4
-      bit-below true bit h = h
-      bit-below false bit h = lit< tt
+  within-five =
+      or-lt 5 _ _
+      (or-lt 5 _ _ (or-lt 5 _ _ (or-lt 5 _ _ (bit-bound alert 0x01 (lit< tt)) (bit-bound tcrit 0x02 (lit< tt))) (bit-bound acknowledged 0x04 (lit< tt)))
+      (bit-bound taken 0x08 (lit< tt)))
+      (bit-bound held 0x10 (lit< tt))
 
-answer-bits : (o : Outcome) → FirstByte (o .device) (o .acknowledged) (o .taken) (answerOf o)
+pub answer-bits : (o : Outcome) → FirstByte (o .device) (o .acknowledged) (o .taken) (o .held) (answerOf o)
 unfolding answerOf pinsOf
 answer-bits o =
     let a = alertOf (o .device) in
     let c = tcritOf (o .device) in
-    let bits = four a c (o .acknowledged) (o .taken) in
+    let bits = five a c (o .acknowledged) (o .taken) (o .held) in
     record {
       D0 = bits 0x01 ∙ simp (and-false, and-true, or-false);
       D1 = bits 0x02 ∙ simp (and-false, and-true, or-false);
       D2 = bits 0x04 ∙ simp (and-false, and-true, or-false);
-      D3 = bits 0x08 ∙ simp (and-false, and-true);
-      rest = within-four a c (o .acknowledged) (o .taken);
+      D3 = bits 0x08 ∙ simp (and-false, and-true, or-false);
+      D4 = bits 0x10 ∙ simp (and-false, and-true);
+      rest = within-five a c (o .acknowledged) (o .taken) (o .held);
     }
 
 pub first-byte : (d : Device) (e : Event) → Ready d → operandsOf e ≡ true
-    → FirstByte (stepOf d e .device) (effectOf d e .acknowledged) (effectOf d e .taken) (stepOf d e .first)
+    → FirstByte (stepOf d e .device) (effectOf d e .acknowledged) (effectOf d e .taken) (effectOf d e .held) (stepOf d e .first)
 first-byte d e ready operands = rw (step-effect d e (ready .variant) (ready .ranges) operands) (answer-bits (effectOf d e))

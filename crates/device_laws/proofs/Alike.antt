@@ -5,11 +5,13 @@ use mathlib.Core.Path.{_≡_, refl, sym, ap, subst, _∙_}
 use mathlib.Core.Bool.{Bool, true, false, not, cond, _||_, _&&_}
 use mathlib.Core.List.{List, [], _∷_}
 use Prim.Native.Nat.{ℕ, _+_, _*_}
-use lib.IntN.{ℤ, pos}
+use lib.IntN.{ℤ}
 use lib.Dec.{eqb}
 use lib.Bits.{bitAnd, bitOr}
 use borrow.Author.Tests.{eqb-true, eqb-false, ne-eqb}
 use Rattle.laws.proofs.Choices.{by-test, clash}
+use Rattle.temperature.specs.declared.Reading.{Reading}
+use Rattle.temperature.specs.Temperature.{openReading}
 use Rattle.registers.specs.Bits.{has}
 use Rattle.registers.specs.Page.{settingOf, changedOf, readableOf, writableOf, knownOf, settableOf, readAtOf, keptOf, addressOf}
 use Rattle.conversion.specs.declared.Sensed.{Sensed}
@@ -130,6 +132,7 @@ module _ (s t : List ℕ) (h : blanked s ≡ blanked t) where
 record Like (o p : Outcome) (hidden : Bool) : Type 0 where
   acknowledged : o .acknowledged ≡ p .acknowledged
   taken : o .taken ≡ p .taken
+  held : o .held ≡ p .held
   byte : hidden ≡ false → o .byte ≡ p .byte
   device : Alike (o .device) (p .device)
 
@@ -148,12 +151,12 @@ module _ (d : Device) (t : List ℕ) (h : blanked (d .settings) ≡ blanked t) w
   set-alike p x y a b e f = ap (λ (z : Bool). setUpOf d p z (blanked a)) e ∙ ap (λ (l : List ℕ). setUpOf d p y l) f
 
   answered-like : (k : Bool) (e f : Device) (byte : ℕ) → Alike e f → Like (answeredOf e byte) (answeredOf f byte) k
-  answered-like k e f byte a = record { acknowledged = refl; taken = refl; byte = λ _. refl; device = a }
+  answered-like k e f byte a = record { acknowledged = refl; taken = refl; held = refl; byte = λ _. refl; device = a }
 
   silent-like : (k : Bool) → Like (silentOf d) (silentOf other) k
   silent-like k =
       let same = set-alike (d .pointer) (d .pending) (d .pending) (d .settings) t refl h in
-      record { acknowledged = refl; taken = refl; byte = λ _. refl; device = same }
+      record { acknowledged = refl; taken = refl; held = refl; byte = λ _. refl; device = same }
 
   comparator-alike : comparatorOf d ≡ comparatorOf other
   unfolding comparatorOf
@@ -216,7 +219,7 @@ module _ (d : Device) (t : List ℕ) (h : blanked (d .settings) ≡ blanked t) w
   unfolding getOf
   get-like r =
       choose (eqb r 0x04 || eqb r 0xBF) (readableOf r) (readableOf r) refl
-      (record { acknowledged = refl; taken = refl; byte = unless; device = read-alike r })
+      (record { acknowledged = refl; taken = refl; held = refl; byte = unless; device = read-alike r })
       (silent-like (eqb r 0x04 || eqb r 0xBF))
     where
       unless : (eqb r 0x04 || eqb r 0xBF) ≡ false → valueOf d r ≡ valueOf other r
@@ -269,14 +272,14 @@ module _ (d : Device) (t : List ℕ) (h : blanked (d .settings) ≡ blanked t) w
       ap (λ (m : Sensed). blankOf (gatheredOf d m)) (sensed-alike (d .settings) t h (d .sensed) local remote broken)
       ∙ ap (λ (l : List ℕ). setUpOf (gatheredOf d n) (d .pointer) false l) h
 
-  sense-like : (local : ℕ) (r q : ℤ) (broken : Bool) → r ≡ q → Like (senseOf d local r broken) (senseOf other local q broken) false
+  sense-like : (local : ℕ) (r q : Reading) (broken : Bool) → r ≡ q → Like (senseOf d local r broken) (senseOf other local q broken) false
   unfolding senseOf
-  sense-like local r q broken e = subst (λ (z : ℤ). Like (senseOf d local r broken) (senseOf other local z broken) false) e same
+  sense-like local r q broken e = subst (λ (z : Reading). Like (senseOf d local r broken) (senseOf other local z broken) false) e same
     where
       same : Like (senseOf d local r broken) (senseOf other local r broken) false
       same =
           choose false (takesOf d) (takesOf other) takes-alike
-          (record { acknowledged = refl; taken = refl; byte = λ _. refl; device = converted-alike local r broken })
+          (record { acknowledged = refl; taken = refl; held = refl; byte = λ _. refl; device = converted-alike local (r .eighths) broken })
           (silent-like false)
 
   at-like : (k : Bool) (a : ℕ) (o p : Outcome) → Like o p k → Like (atOf d a o) (atOf other a p) (ownOf d a && k)
@@ -301,8 +304,8 @@ module _ (d : Device) (t : List ℕ) (h : blanked (d .settings) ≡ blanked t) w
       choose (ownOf d a && k) (eqb a alertResponse) (eqb a alertResponse) refl (respond-like (ownOf d a && k))
       (at-like k a (getOf d p) (getOf other p) (get-like p))
   event-like (Convert local high low) = sense-like local _ _ false (reading-alike (d .settings) t h high low)
-  event-like (Open local) = sense-like local (pos 1016) (pos 1016) true refl
-  event-like PowerOn = record { acknowledged = refl; taken = refl; byte = λ _. refl; device = refl }
+  event-like (Open local) = sense-like local openReading openReading true refl
+  event-like PowerOn = record { acknowledged = refl; taken = refl; held = refl; byte = λ _. refl; device = refl }
 
   reads-other : (e : Event) → readsThem d e ≡ readsThem other e
   reads-other (Write a w v) = refl
@@ -338,7 +341,7 @@ module _ (d e : Device) (a : Alike d e) where
 
 first-alike : (o p : Outcome) (k : Bool) → Like o p k → answerOf o ≡ answerOf p
 unfolding answerOf
-first-alike o p k l = rw (pins-alike (o .device) (p .device) (l .device), l .acknowledged, l .taken)
+first-alike o p k l = rw (pins-alike (o .device) (p .device) (l .device), l .acknowledged, l .taken, l .held)
 
 pub alike-event : (d e : Device) (event : Event) → Alike d e → AnswerAlike d e event
 alike-event d e event a =
@@ -346,6 +349,7 @@ alike-event d e event a =
     record {
       acknowledged = l .acknowledged;
       taken = l .taken;
+      held = l .held;
       first = first-alike (effectOf d event) (effectOf e event) (readsThem d event) l;
       byte = l .byte;
       after = l .device;

@@ -12,6 +12,7 @@ use lib.Dec.{lit<}
 use borrow.Author.Tests.{le-ltb}
 use Rattle.laws.proofs.Choices.{cond-ind}
 use Rattle.temperature.proofs.Laws.{eighths-within}
+use Rattle.temperature.specs.declared.Reading.{Reading}
 use Rattle.temperature.specs.Temperature.{degreesOf, eighthsOf, clearedOf}
 use Rattle.registers.specs.Page.{settingOf}
 use Rattle.conversion.specs.Conversion.{latchOf, sensedOf}
@@ -76,10 +77,10 @@ unfolding convertedOf sensedOf
 converted-stuck d local remote broken h =
     record { latch = rw (h .crit, h .less, not-cleared local, h .latch) (holds _); crit = h .crit; less = h .less }
 
-sense-stuck : (d : Device) (local : ℕ) (remote : ℤ) (broken : Bool) → Stuck d → Stuck (senseOf d local remote broken .device)
+sense-stuck : (d : Device) (local : ℕ) (remote : Reading) (broken : Bool) → Stuck d → Stuck (senseOf d local remote broken .device)
 unfolding senseOf
 sense-stuck d local remote broken h =
-    cond-ind (λ (o : Outcome). Stuck (o .device)) (takesOf d) (λ _. converted-stuck d local remote broken h) (λ _. h)
+    cond-ind (λ (o : Outcome). Stuck (o .device)) (takesOf d) (λ _. converted-stuck d local (remote .eighths) broken h) (λ _. h)
 
 effect-stuck : (d : Device) (e : Event) → IsConversion e → Stuck d → Stuck (effectOf d e .device)
 unfolding effectOf

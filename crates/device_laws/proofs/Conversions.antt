@@ -1,15 +1,15 @@
 -- `converted`: what a taken conversion does. `live-depends`: what the live byte depends on.
 -- `count-in-a-row`: the fault count over faults in a row (P4).
 -- Assumes nothing.
-use mathlib.Core.Path.{_≡_, refl, ap, _∙_}
+use mathlib.Core.Path.{_≡_, refl, _∙_}
 use mathlib.Core.Bool.{Bool, true, false}
 use mathlib.Core.List.{List, [], _∷_}
 use Prim.Native.Nat.{ℕ, _+_, min, _≤_}
 use native.Mathlib.Omega.{arith}
-use lib.IntN.{ℤ}
 use lib.ListN.{length}
 use Rattle.laws.proofs.Choices.{by-test, clash}
-use Rattle.temperature.specs.Temperature.{sumOf, heldOf}
+use Rattle.temperature.specs.declared.Reading.{Reading}
+use Rattle.temperature.specs.Temperature.{sumOf, openReading}
 use Rattle.conversion.specs.Conversion.{readingOf, sensedOf}
 use Rattle.device_laws.specs.AfterConversion.{SameLimits}
 use Rattle.device_laws.proofs.AfterConversion.{after-conversion, same-live}
@@ -17,45 +17,64 @@ use Rattle.device_laws.proofs.Bits.{has-or}
 use Rattle.device.specs.declared.Device.{Device}
 use Rattle.device.specs.declared.Event.{Event}
 use Rattle.device.specs.declared.Event.the-variants.{Write, Read, Send, Receive, Convert, Open, PowerOn}
-use Rattle.device.specs.Bus.{takesOf, convertedOf, senseOf}
+use Rattle.device.specs.Bus.{takesOf, convertedOf, takingOf, senseOf}
 use Rattle.device.specs.Profile.{IsConversion}
 use Rattle.device.specs.Step.{effectOf}
+use Rattle.device_laws.specs.Moves.{sumAt, heldBy}
 use Rattle.device_laws.specs.Conversions.{localIn, openIn, readingIn, Converted, afterAll, Fault, Faults}
+use Rattle.device_laws.proofs.Moves.{held-to, held-exactly}
 
-reading-in : (d : Device) (local high low : ℕ) → readingOf (d .settings) high low ≡ readingIn d (Convert local high low)
-unfolding readingOf heldOf sumOf
-reading-in d local high low = refl
+-- the reading of a conversion, and whether it was held; of any other event it is not asked
+abbrev remoteIn : Device → Event → Reading
+remoteIn d (Write a w v) = openReading
+remoteIn d (Read a r) = openReading
+remoteIn d (Send a r) = openReading
+remoteIn d (Receive a) = openReading
+remoteIn d (Convert local high low) = readingOf (d .settings) high low
+remoteIn d (Open local) = openReading
+remoteIn d PowerOn = openReading
+
+reading-in : (d : Device) (e : Event) → IsConversion e → remoteIn d e .eighths ≡ readingIn d e
+unfolding readingOf sumOf
+reading-in d (Write a w v) c = absurd c
+reading-in d (Read a r) c = absurd c
+reading-in d (Send a r) c = absurd c
+reading-in d (Receive a) c = absurd c
+reading-in d (Convert local high low) c = held-to (sumAt d high low)
+reading-in d (Open local) c = refl
+reading-in d PowerOn c = absurd c
 
 -- any conversion, by its operands
-sensed-in : (d : Device) (e : Event) → IsConversion e → effectOf d e ≡ senseOf d (localIn e) (readingIn d e) (openIn e)
+sensed-in : (d : Device) (e : Event) → IsConversion e → effectOf d e ≡ senseOf d (localIn e) (remoteIn d e) (openIn e)
 unfolding effectOf
 sensed-in d (Write a w v) c = absurd c
 sensed-in d (Read a r) c = absurd c
 sensed-in d (Send a r) c = absurd c
 sensed-in d (Receive a) c = absurd c
-sensed-in d (Convert local high low) c = ap (λ (t : ℤ). senseOf d local t false) (reading-in d local high low)
+sensed-in d (Convert local high low) c = refl
 sensed-in d (Open local) c = refl
 sensed-in d PowerOn c = absurd c
 
-sense-takes : (d : Device) (local : ℕ) (remote : ℤ) (diodeOpen : Bool) → senseOf d local remote diodeOpen .taken ≡ true
-    → senseOf d local remote diodeOpen ≡ record { device = convertedOf d local remote diodeOpen; acknowledged = false; taken = true; byte = 0 }
+sense-takes : (d : Device) (local : ℕ) (remote : Reading) (diodeOpen : Bool) → senseOf d local remote diodeOpen .taken ≡ true
+    → senseOf d local remote diodeOpen ≡ takingOf d local remote diodeOpen
 unfolding senseOf
 sense-takes d local remote diodeOpen h = by-test (takesOf d) (λ t. rw t) (λ t. clash (rw t at h))
 
-taken-effect : (d : Device) (e : Event) → IsConversion e → effectOf d e .taken ≡ true
-    → effectOf d e ≡ record { device = convertedOf d (localIn e) (readingIn d e) (openIn e); acknowledged = false; taken = true; byte = 0 }
+taken-effect : (d : Device) (e : Event) → IsConversion e → effectOf d e .taken ≡ true → effectOf d e ≡ takingOf d (localIn e) (remoteIn d e) (openIn e)
 taken-effect d e c h =
-    sensed-in d e c ∙ sense-takes d (localIn e) (readingIn d e) (openIn e) (rw (sensed-in d e c) at h)
+    sensed-in d e c ∙ sense-takes d (localIn e) (remoteIn d e) (openIn e) (rw (sensed-in d e c) at h)
 
 pub converted : (d : Device) (e : Event) → IsConversion e → effectOf d e .taken ≡ true → Converted d e (effectOf d e)
 unfolding convertedOf sensedOf
 converted d e c h =
-    let n = sensedOf (d .settings) (d .sensed) (localIn e) (readingIn d e) (openIn e) in
+    let remote = remoteIn d e .eighths in
+    let n = sensedOf (d .settings) (d .sensed) (localIn e) remote (openIn e) in
+    let told : remoteIn d e .held ≡ heldBy d e = rw (taken-effect d e c h) at (held-exactly d e) in
     rw (taken-effect d e c h)
     (record {
       local = refl;
-      remote = refl;
-      sensed = after-conversion (d .settings) (d .sensed) (localIn e) (readingIn d e) (openIn e);
+      remote = reading-in d e c;
+      sensed = after-conversion (d .settings) (d .sensed) (localIn e) remote (openIn e);
       gathers = has-or (d .status) (n .live);
       pending = refl;
       variant = refl;
@@ -64,6 +83,7 @@ converted d e c h =
       lowkept = refl;
       settings = refl;
       acknowledged = refl;
+      held = told;
       byte = refl;
     })
 
@@ -75,7 +95,7 @@ pub live-depends : (d other : Device) (e : Event) → IsConversion e → effectO
     → effectOf d e .device .sensed .live ≡ effectOf other e .device .sensed .live
 unfolding convertedOf
 live-depends d other e c h k limits reading count =
-    rw (taken-effect d e c h, taken-effect other e c k, reading)
+    rw (taken-effect d e c h, taken-effect other e c k, reading-in d e c, reading-in other e c, reading)
     (same-live (d .settings) (other .settings) (d .sensed) (other .sensed) (localIn e) (readingIn other e) (openIn e) limits count)
 
 -- ---- the fault count

@@ -7,6 +7,8 @@ pub mod Changes
 pub mod Moves
 pub mod Registers
 pub mod LowByte
+pub mod Held
+pub mod BeforeHeld
 pub mod Alike
 pub mod Bits
 pub mod AfterConversion

@@ -1,18 +1,20 @@
 -- What moves each part of a device, for every device and event: `pointer-moves`, `pending-moves`, `status-moves`, `low-moves`, `local-moves`,
 -- `remote-moves`, `faults-moves`; `sensed-rests` and `sensed-starts` for these three with the live byte and the latches; and what is
--- acknowledged and taken: `acknowledged-exactly` and `taken-exactly`.
+-- acknowledged, taken and, by request b, held: `acknowledged-exactly`, `taken-exactly` and `held-exactly`.
 -- Assumes nothing.
 use mathlib.Core.Path.{_≡_, refl, sym, ap, _∙_}
 use mathlib.Core.Bool.{Bool, true, false, not, cond, _||_, _&&_, and-true, and-false, or-false}
 use mathlib.Core.List.{List, [], _∷_}
 use Prim.Native.Nat.{ℕ, _+_, _*_, min}
-use lib.IntN.{ℤ, pos, _*ℤ_, +ℤ-idr}
+use lib.IntN.{ℤ, pos, negℤ, _*ℤ_, +ℤ-idr}
 use lib.Signed.{ltZ}
 use lib.Dec.{eqb}
 use lib.Bits.{bitAnd, bitOr}
 use borrow.Author.Tests.{eqb-true, ne-eqb}
 use Rattle.laws.proofs.Choices.{cond-ind, by-test, clash}
-use Rattle.temperature.specs.Temperature.{degreesOf, eighthsOf, sumOf, heldOf}
+use Rattle.temperature.specs.declared.Reading.{Reading}
+use Rattle.temperature.specs.Temperature.{degreesOf, eighthsOf, sumOf, heldOf, openReading}
+use Rattle.temperature.proofs.Held.{held-tells}
 use Rattle.registers.specs.Page.{R, W, among, readableOf, writableOf, knownOf, addressOf, readAtOf, keptOf, settingOf, changedOf, readPositionOf, readOnlyOf}
 use Rattle.registers.proofs.Entries.{zero-at}
 use Rattle.conversion.specs.declared.Sensed.{Sensed}
@@ -23,11 +25,13 @@ use Rattle.device.specs.declared.Event.{Event}
 use Rattle.device.specs.declared.Event.the-variants.{Write, Read, Send, Receive, Convert, Open, PowerOn}
 use Rattle.device.specs.Pins.{comparatorOf, watchedOf, alertOf}
 use Rattle.device.specs.Bus.{silentOf, answeredOf, standbyOf, maskedOf, storedOf, storedIn, firedOf, writtenOf, putOf, pointedOf}
-use Rattle.device.specs.Bus.{afterReadOf, valueOf, getOf, pointOf, respondsOf, respondOf, takesOf, convertedOf, senseOf}
+use Rattle.device.specs.Bus.{afterReadOf, valueOf, getOf, pointOf, respondsOf, respondOf, takesOf, convertedOf, takingOf, senseOf}
 use Rattle.device.specs.Bus.{poweredOf, alertResponse, atOf}
 use Rattle.device_laws.specs.Moves.{byteAt, ownOf, anySet, inStandby, takenOf, namedOf, pointerAfter, pendingAfter, localAfter, remoteAfter, countAfter}
-use Rattle.device_laws.specs.Moves.{restsAt, sampleOf, faultsAfter, statusAfter, keptLow, lowAfterRead, lowAfter, answersAlert, acknowledgedOf, takenBy}
+use Rattle.device_laws.specs.Moves.{restsAt, sumAt, heldTo, sampleOf, faultsAfter, statusAfter, keptLow, lowAfterRead, lowAfter, answersAlert}
+use Rattle.device_laws.specs.Moves.{acknowledgedOf, takenBy, heldBy}
 use Rattle.device.specs.Ranges.{rangedOf}
+use Rattle.device.specs.Profile.{OnBus}
 use Rattle.device.specs.Step.{effectOf}
 use Rattle.device_laws.proofs.Changes.{on-list, setting-other, and-assoc}
 use Rattle.device.proofs.InRange.{named}
@@ -93,7 +97,7 @@ module _ {A : Type 0} (f : Device → A) (d : Device) where
   unfolding respondOf
   respond-leaves h = cond-ind (λ (o : Outcome). f (o .device) ≡ f d) (respondsOf d) (λ _. h) (λ _. refl)
 
-  pub sense-moves : (local : ℕ) (remote : ℤ) (broken : Bool) (x : A) → f (convertedOf d local remote broken) ≡ x
+  pub sense-moves : (local : ℕ) (remote : Reading) (broken : Bool) (x : A) → f (convertedOf d local (remote .eighths) broken) ≡ x
       → f (senseOf d local remote broken .device) ≡ cond (takenOf d) x (f d)
   unfolding senseOf takesOf
   sense-moves local remote broken x h = choice-moves (takesOf d) _ x h
@@ -113,7 +117,7 @@ module _ (d : Device) where
   unfolding maskedOf
   masked-pointer = refl
 
-  converted-pointer : (local : ℕ) (remote : ℤ) (broken : Bool) → senseOf d local remote broken .device .pointer ≡ d .pointer
+  converted-pointer : (local : ℕ) (remote : Reading) (broken : Bool) → senseOf d local remote broken .device .pointer ≡ d .pointer
   unfolding convertedOf
   converted-pointer local remote broken =
       sense-moves (λ (e : Device). e .pointer) d local remote broken (d .pointer) refl ∙ cond-same (takenOf d) (d .pointer)
@@ -265,13 +269,13 @@ module _ (d : Device) where
       (λ t. rw (response-apart d a t) (respond-leaves (λ (e : Device). e .status) d refl))
       (λ _. at-moves (λ (e : Device). e .status) d a (getOf d (d .pointer)) (eqb (d .pointer) 0x02) 0 (get-status (d .pointer)))
 
-  sense-status : (local : ℕ) (remote : ℤ) (broken : Bool) →
+  sense-status : (local : ℕ) (remote : Reading) (broken : Bool) →
       let o = senseOf d local remote broken in o .device .status ≡ cond (takenOf d) (bitOr (d .status) (o .device .sensed .live)) (d .status)
   unfolding senseOf takesOf convertedOf
   sense-status local remote broken = split (takesOf d)
     where
       after : Outcome
-      after = record { device = convertedOf d local remote broken; acknowledged = false; taken = true; byte = 0 }
+      after = takingOf d local remote broken
 
       split : (t : Bool) →
           cond t after (silentOf d) .device .status ≡ cond t (bitOr (d .status) (cond t after (silentOf d) .device .sensed .live)) (d .status)
@@ -327,7 +331,7 @@ module _ (d : Device) where
       (λ t. rw (response-apart d a t) (respond-leaves keptLow d refl))
       (λ _. at-low a (d .pointer))
 
-  sense-low : (local : ℕ) (remote : ℤ) (broken : Bool) → keptLow (senseOf d local remote broken .device) ≡ keptLow d
+  sense-low : (local : ℕ) (remote : Reading) (broken : Bool) → keptLow (senseOf d local remote broken .device) ≡ keptLow d
   unfolding convertedOf
   sense-low local remote broken = sense-moves keptLow d local remote broken (keptLow d) refl ∙ cond-same (takenOf d) (keptLow d)
 
@@ -357,13 +361,20 @@ powered-remote : (v : ℕ) → eighthsOf (readOnlyOf v 0x01) (readOnlyOf v 0x10)
 unfolding eighthsOf degreesOf
 powered-remote v = rw (zero-at v 0x01 refl, zero-at v 0x10 refl)
 
+-- the reading that a sum is held to
+pub held-to : (sum : ℤ) → heldOf sum .eighths ≡ heldTo sum
+unfolding heldOf
+held-to sum =
+    by-test (ltZ (pos 1023) sum) (λ over. rw over) (λ on. by-test (ltZ sum (negℤ (pos 1024))) (λ under. rw (on, under)) (λ off. rw (on, off)))
+
 pub remote-moves : (d : Device) (e : Event) → effectOf d e .device .sensed .remote ≡ remoteAfter d e
-unfolding effectOf poweredOf convertedOf sensedOf readingOf sumOf heldOf
+unfolding effectOf poweredOf convertedOf sensedOf readingOf sumOf
 remote-moves d (Write a w v) = ap (λ (s : Sensed). s .remote) (still d (Write a w v) tt)
 remote-moves d (Read a r) = ap (λ (s : Sensed). s .remote) (still d (Read a r) tt)
 remote-moves d (Send a r) = ap (λ (s : Sensed). s .remote) (still d (Send a r) tt)
 remote-moves d (Receive a) = ap (λ (s : Sensed). s .remote) (still d (Receive a) tt)
-remote-moves d (Convert local high low) = sense-moves (λ (e : Device). e .sensed .remote) d local _ false (sampleOf d high low) refl
+remote-moves d (Convert local high low) =
+    sense-moves (λ (e : Device). e .sensed .remote) d local _ false (sampleOf d high low) (held-to (sumAt d high low))
 remote-moves d (Open local) = sense-moves (λ (e : Device). e .sensed .remote) d local _ true (pos 1016) refl
 remote-moves d PowerOn = powered-remote (d .variant)
 
@@ -396,25 +407,26 @@ unfolding convertedOf sensedOf
 converted-faults d local t broken = count-outside d t
 
 pub faults-moves : (d : Device) (e : Event) → effectOf d e .device .sensed .faults ≡ faultsAfter d e
-unfolding effectOf poweredOf readingOf sumOf heldOf
+unfolding effectOf poweredOf readingOf sumOf
 faults-moves d (Write a w v) = ap (λ (s : Sensed). s .faults) (still d (Write a w v) tt)
 faults-moves d (Read a r) = ap (λ (s : Sensed). s .faults) (still d (Read a r) tt)
 faults-moves d (Send a r) = ap (λ (s : Sensed). s .faults) (still d (Send a r) tt)
 faults-moves d (Receive a) = ap (λ (s : Sensed). s .faults) (still d (Receive a) tt)
 faults-moves d (Convert local high low) =
-    let t = sampleOf d high low in sense-moves (λ (e : Device). e .sensed .faults) d local t false (countAfter d t) (converted-faults d local t false)
+    let count = converted-faults d local _ false ∙ ap (countAfter d) (held-to (sumAt d high low)) in
+    sense-moves (λ (e : Device). e .sensed .faults) d local _ false (countAfter d (sampleOf d high low)) count
 faults-moves d (Open local) =
-    sense-moves (λ (e : Device). e .sensed .faults) d local (pos 1016) true (countAfter d (pos 1016)) (converted-faults d local (pos 1016) true)
+    sense-moves (λ (e : Device). e .sensed .faults) d local openReading true (countAfter d (pos 1016)) (converted-faults d local (pos 1016) true)
 faults-moves d PowerOn = refl
 
 -- ---- the live byte and the latches, with the readings and the count
 
-sense-rests : (d : Device) (local : ℕ) (remote : ℤ) (broken : Bool) → not (takenOf d) ≡ true → senseOf d local remote broken .device .sensed ≡ d .sensed
+sense-rests : (d : Device) (local : ℕ) (remote : Reading) (broken : Bool) → not (takenOf d) ≡ true → senseOf d local remote broken .device .sensed ≡ d .sensed
 unfolding senseOf takesOf
 sense-rests d local remote broken = split (takesOf d)
   where
     split : (t : Bool) → not t ≡ true
-        → cond t (record { device = convertedOf d local remote broken; acknowledged = false; taken = true; byte = 0 }) (silentOf d) .device .sensed ≡ d .sensed
+        → cond t (takingOf d local remote broken) (silentOf d) .device .sensed ≡ d .sensed
     split true e = clash e
     split false e = refl
 
@@ -435,7 +447,7 @@ pub sensed-starts : (d : Device)
 unfolding effectOf poweredOf
 sensed-starts d = rw (powered-remote (d .variant), zero-at (d .variant) 0x00 refl)
 
--- ---- acknowledged and taken
+-- ---- acknowledged, taken and held
 
 module _ (d : Device) where
   pub at-acknowledged : (a : ℕ) (own : Outcome) (t : Bool) → own .acknowledged ≡ t → atOf d a own .acknowledged ≡ (ownOf d a && t)
@@ -488,7 +500,7 @@ module _ (d : Device) where
           rw (t, or-false (ownOf d a && among (d .pointer) R))
           (at-acknowledged a (getOf d (d .pointer)) (among (d .pointer) R) (get-acknowledged (d .pointer)))
 
-  sense-unacknowledged : (local : ℕ) (remote : ℤ) (broken : Bool) → senseOf d local remote broken .acknowledged ≡ false
+  sense-unacknowledged : (local : ℕ) (remote : Reading) (broken : Bool) → senseOf d local remote broken .acknowledged ≡ false
   unfolding senseOf
   sense-unacknowledged local remote broken = cond-ind (λ (o : Outcome). o .acknowledged ≡ false) (takesOf d) (λ _. refl) (λ _. refl)
 
@@ -502,33 +514,68 @@ acknowledged-exactly d (Convert local high low) = sense-unacknowledged d local _
 acknowledged-exactly d (Open local) = sense-unacknowledged d local _ true
 acknowledged-exactly d PowerOn = refl
 
+-- a yes or no of an outcome that silence and every acknowledgement leave at no: every event on the bus does
+module _ (f : Outcome → Bool) (silent : (d : Device) → f (silentOf d) ≡ false) (answered : (d : Device) (byte : ℕ) → f (answeredOf d byte) ≡ false) where
+  choice-none : (d after : Device) (t : Bool) (byte : ℕ) → f (cond t (answeredOf after byte) (silentOf d)) ≡ false
+  choice-none d after true byte = answered after byte
+  choice-none d after false byte = silent d
+
+  at-none : (d : Device) (a : ℕ) (own : Outcome) → f own ≡ false → f (atOf d a own) ≡ false
+  at-none d a own h = cond-ind (λ (o : Outcome). f o ≡ false) (eqb a (addressOf (d .variant))) (λ _. h) (λ _. silent d)
+
+  bus-none : (d : Device) (e : Event) → OnBus e → f (effectOf d e) ≡ false
+  unfolding effectOf putOf getOf pointOf respondOf
+  bus-none d (Write a w v) h = at-none d a (putOf d w v) (choice-none d (writtenOf d w v) (writableOf w) 0)
+  bus-none d (Read a r) h = at-none d a (getOf d r) (choice-none d (afterReadOf (pointedOf d r) r) (readableOf r) (valueOf d r))
+  bus-none d (Send a r) h = at-none d a (pointOf d r) (choice-none d (pointedOf d r) (knownOf r) 0)
+  bus-none d (Receive a) h =
+      let p = d .pointer in
+      cond-ind (λ (o : Outcome). f o ≡ false) (eqb a alertResponse)
+      (λ _. choice-none d (maskedOf d) (respondsOf d) (addressOf (d .variant) * 2 + 1))
+      (λ _. at-none d a (getOf d p) (choice-none d (afterReadOf (pointedOf d p) p) (readableOf p) (valueOf d p)))
+  bus-none d (Convert local high low) h = absurd h
+  bus-none d (Open local) h = absurd h
+  bus-none d PowerOn h = absurd h
+
+untaken : (d : Device) (e : Event) → OnBus e → effectOf d e .taken ≡ false
+untaken = bus-none (λ (o : Outcome). o .taken) (λ d. refl) (λ d byte. refl)
+
+unheld : (d : Device) (e : Event) → OnBus e → effectOf d e .held ≡ false
+unheld = bus-none (λ (o : Outcome). o .held) (λ d. refl) (λ d byte. refl)
+
 module _ (d : Device) where
-  sense-taken : (local : ℕ) (remote : ℤ) (broken : Bool) → senseOf d local remote broken .taken ≡ takenOf d
+  sense-taken : (local : ℕ) (remote : Reading) (broken : Bool) → senseOf d local remote broken .taken ≡ takenOf d
   unfolding senseOf takesOf
   sense-taken local remote broken = split (takesOf d)
     where
-      split : (t : Bool) → cond t (record { device = convertedOf d local remote broken; acknowledged = false; taken = true; byte = 0 }) (silentOf d) .taken ≡ t
+      split : (t : Bool) → cond t (takingOf d local remote broken) (silentOf d) .taken ≡ t
       split true = refl
       split false = refl
 
-  -- a choice between an acknowledgement and silence takes no conversion
-  none-taken : (t : Bool) (e : Device) (byte : ℕ) → cond t (answeredOf e byte) (silentOf d) .taken ≡ false
-  none-taken true e byte = refl
-  none-taken false e byte = refl
-
-  at-untaken : (a : ℕ) (own : Outcome) → own .taken ≡ false → atOf d a own .taken ≡ false
-  at-untaken a own h = cond-ind (λ (o : Outcome). o .taken ≡ false) (eqb a (addressOf (d .variant))) (λ _. h) (λ _. refl)
+  sense-held : (local : ℕ) (remote : Reading) (broken : Bool) → senseOf d local remote broken .held ≡ (takenOf d && remote .held)
+  unfolding senseOf takesOf
+  sense-held local remote broken = split (takesOf d)
+    where
+      split : (t : Bool) → cond t (takingOf d local remote broken) (silentOf d) .held ≡ (t && remote .held)
+      split true = refl
+      split false = refl
 
 pub taken-exactly : (d : Device) (e : Event) → effectOf d e .taken ≡ takenBy d e
-unfolding effectOf putOf getOf pointOf respondOf
-taken-exactly d (Write a w v) = at-untaken d a (putOf d w v) (none-taken d (writableOf w) (writtenOf d w v) 0)
-taken-exactly d (Read a r) = at-untaken d a (getOf d r) (none-taken d (readableOf r) (afterReadOf (pointedOf d r) r) (valueOf d r))
-taken-exactly d (Send a r) = at-untaken d a (pointOf d r) (none-taken d (knownOf r) (pointedOf d r) 0)
-taken-exactly d (Receive a) =
-    let p = d .pointer in
-    cond-ind (λ (o : Outcome). o .taken ≡ false) (eqb a alertResponse)
-    (λ _. none-taken d (respondsOf d) (maskedOf d) (addressOf (d .variant) * 2 + 1))
-    (λ _. at-untaken d a (getOf d p) (none-taken d (readableOf p) (afterReadOf (pointedOf d p) p) (valueOf d p)))
+unfolding effectOf
+taken-exactly d (Write a w v) = untaken d (Write a w v) tt
+taken-exactly d (Read a r) = untaken d (Read a r) tt
+taken-exactly d (Send a r) = untaken d (Send a r) tt
+taken-exactly d (Receive a) = untaken d (Receive a) tt
 taken-exactly d (Convert local high low) = sense-taken d local _ false
 taken-exactly d (Open local) = sense-taken d local _ true
 taken-exactly d PowerOn = refl
+
+pub held-exactly : (d : Device) (e : Event) → effectOf d e .held ≡ heldBy d e
+unfolding effectOf readingOf sumOf
+held-exactly d (Write a w v) = unheld d (Write a w v) tt
+held-exactly d (Read a r) = unheld d (Read a r) tt
+held-exactly d (Send a r) = unheld d (Send a r) tt
+held-exactly d (Receive a) = unheld d (Receive a) tt
+held-exactly d (Convert local high low) = sense-held d local _ false ∙ ap (λ (t : Bool). takenOf d && t) (held-tells (sumAt d high low))
+held-exactly d (Open local) = sense-held d local openReading true ∙ and-false (takenOf d)
+held-exactly d PowerOn = refl

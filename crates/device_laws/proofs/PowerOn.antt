@@ -54,5 +54,6 @@ powered-on d h =
       settings = table (d .variant) h;
       acknowledged = refl;
       taken = refl;
+      held = refl;
       byte = refl;
     }

@@ -5,12 +5,12 @@ use mathlib.Core.Bool.{Bool, true, false, cond, _||_, _&&_, or-false}
 use mathlib.Core.List.{List, map}
 use Prim.Native.Nat.{ℕ, zero, suc, _+_, _*_, _≤_}
 use native.Mathlib.Omega.{arith}
-use lib.IntN.{ℤ}
 use lib.Dec.{eqb, leb}
 use lib.Bits.{bitAnd, bitOr}
 use lib.ListN.{getD, length}
 use borrow.Author.Tests.{eqb-true, leb-true}
 use Rattle.laws.proofs.Choices.{cond-ind, by-test, clash, and-left, and-right}
+use Rattle.temperature.specs.declared.Reading.{Reading}
 use Rattle.registers.specs.declared.Position.{Position}
 use Rattle.registers.specs.declared.Position.the-variants.{At, Nowhere}
 use Rattle.registers.specs.Page.{R, W, Settable, settable, among, onPosition, readableOf, writableOf, knownOf, addressOf, readAtOf, keptOf, settableOf}
@@ -184,7 +184,7 @@ module _ (d : Device) (whole : length (d .settings) ≡ 14) (q : ℕ) where
   point-byte : (r : ℕ) → byteAt (pointOf d r .device) q ≡ byteAt d q
   point-byte r = point-moves (λ (e : Device). byteAt e q) d r (byteAt d q) refl ∙ cond-same (namedOf r) (byteAt d q)
 
-  sense-byte : (local : ℕ) (remote : ℤ) (broken : Bool) → byteAt (senseOf d local remote broken .device) q ≡ byteAt d q
+  sense-byte : (local : ℕ) (remote : Reading) (broken : Bool) → byteAt (senseOf d local remote broken .device) q ≡ byteAt d q
   unfolding convertedOf
   sense-byte local remote broken =
       sense-moves (λ (e : Device). byteAt e q) d local remote broken (byteAt d q) refl ∙ cond-same (takenOf d) (byteAt d q)

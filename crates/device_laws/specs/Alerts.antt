@@ -1,4 +1,4 @@
--- P6 to P9 in the bits that document 01 prints: what pulls the two pins, the first answer byte, and what an alert response and a read of
+-- P6 to P9 and request b in the bits that documents 01 and 02 print: what pulls the two pins, the first answer byte, and what an alert response and a read of
 -- status do.
 -- Assumes nothing.
 use Prim.Native.Nat.{ℕ, _+_, _*_, _<_}
@@ -20,6 +20,7 @@ pub record Responds (d : Device) (o : Outcome) : Type 0 where
   pub acknowledged : o .acknowledged ≡ (alertOf d && not (has (settingOf (d .settings) 0xBF) 0x01))
   pub byte : o .byte ≡ cond (o .acknowledged) (addressOf (d .variant) * 2 + 1) 0
   pub taken : o .taken ≡ false
+  pub held : o .held ≡ false
   pub variant : o .device .variant ≡ d .variant
   pub pointer : o .device .pointer ≡ d .pointer
   pub pending : o .device .pending ≡ d .pending
@@ -36,6 +37,7 @@ pub record StatusRead (d : Device) (o : Outcome) : Type 0 where
   pub acknowledged : o .acknowledged ≡ true
   pub byte : o .byte ≡ d .status
   pub taken : o .taken ≡ false
+  pub held : o .held ≡ false
   pub cleared : o .device .status ≡ 0
   pub variant : o .device .variant ≡ d .variant
   pub pointer : o .device .pointer ≡ 0x02
@@ -49,10 +51,11 @@ pub record StatusRead (d : Device) (o : Outcome) : Type 0 where
       ≡ cond (not (has (settingOf (d .settings) 0xBF) 0x01) && anyOfSix (d .status)) (bitOr (settingOf (d .settings) 0x03) 0x80) (settingOf (d .settings) 0x03)
   pub others : (r : ℕ) → (r ≡ 0x03 → ⊥) → settingOf (o .device .settings) r ≡ settingOf (d .settings) r
 
--- the first answer byte: the pins of the device as it stands after the event, acknowledged, conversion taken, the rest 0
-pub record FirstByte (after : Device) (acknowledged taken : Bool) (byte : ℕ) : Type 0 where
+-- the first answer byte: the pins of the device as it stands after the event, acknowledged, conversion taken, request b: reading held, the rest 0
+pub record FirstByte (after : Device) (acknowledged taken held : Bool) (byte : ℕ) : Type 0 where
   pub D0 : has byte 0x01 ≡ alertOf after
   pub D1 : has byte 0x02 ≡ tcritOf after
   pub D2 : has byte 0x04 ≡ acknowledged
   pub D3 : has byte 0x08 ≡ taken
-  pub rest : byte < 0x10
+  pub D4 : has byte 0x10 ≡ held
+  pub rest : byte < 0x20

@@ -37,11 +37,12 @@ readsThem d (Convert local high low) = false
 readsThem d (Open local) = false
 readsThem d PowerOn = false
 
--- one event at two devices: acknowledged, taken and the first answer byte alike, the byte read too unless the event reads 04 or BF, and the
+-- one event at two devices: acknowledged, taken, held and the first answer byte alike, the byte read too unless the event reads 04 or BF, and the
 -- devices after it alike
 pub record AnswerAlike (d e : Device) (event : Event) : Type 0 where
   pub acknowledged : effectOf d event .acknowledged ≡ effectOf e event .acknowledged
   pub taken : effectOf d event .taken ≡ effectOf e event .taken
+  pub held : effectOf d event .held ≡ effectOf e event .held
   pub first : answerOf (effectOf d event) ≡ answerOf (effectOf e event)
   pub byte : readsThem d event ≡ false → effectOf d event .byte ≡ effectOf e event .byte
   pub after : Alike (effectOf d event .device) (effectOf e event .device)

@@ -1,15 +1,13 @@
--- P2, P4, P5 and P11 of a device: what a taken conversion does to it, field by field, and conversions in a row.
+-- P2, P4, P5, P11 and request b of a device: what a taken conversion does to it, field by field, and conversions in a row.
 -- Assumes nothing.
 use Prim.Native.Nat.{ℕ}
 use mathlib.Core.Path.{_≡_}
-use mathlib.Core.Bool.{Bool, true, false, _||_, cond}
+use mathlib.Core.Bool.{Bool, true, false, _||_}
 use mathlib.Core.List.{List, [], _∷_}
-use lib.IntN.{ℤ, pos, negℤ, _+ℤ_}
-use lib.Signed.{ltZ}
-use Rattle.temperature.specs.Temperature.{eighthsOf}
+use lib.IntN.{ℤ, pos}
 use Rattle.registers.specs.Bits.{has}
-use Rattle.registers.specs.Page.{settingOf}
 use Rattle.device_laws.specs.AfterConversion.{AfterConversion, outsideAny}
+use Rattle.device_laws.specs.Moves.{sampleOf, heldBy}
 use Rattle.device.specs.declared.Device.{Device}
 use Rattle.device.specs.declared.Outcome.{Outcome}
 use Rattle.device.specs.declared.Event.{Event}
@@ -37,16 +35,13 @@ openIn (Convert local high low) = false
 openIn (Open local) = true
 openIn PowerOn = false
 
-abbrev pub onScale : ℤ → ℤ
-onScale sum = cond (ltZ (pos 1023) sum) (pos 1023) (cond (ltZ sum (negℤ (pos 1024))) (negℤ (pos 1024)) sum)
-
 -- P2: sample plus the offset of 11 and 12, held to -1024..1023; 1016 with no offset for an open diode
 abbrev pub readingIn : Device → Event → ℤ
 readingIn d (Write a w v) = pos 0
 readingIn d (Read a r) = pos 0
 readingIn d (Send a r) = pos 0
 readingIn d (Receive a) = pos 0
-readingIn d (Convert local high low) = onScale (eighthsOf high low +ℤ eighthsOf (settingOf (d .settings) 0x11) (settingOf (d .settings) 0x12))
+readingIn d (Convert local high low) = sampleOf d high low
 readingIn d (Open local) = pos 1016
 readingIn d PowerOn = pos 0
 
@@ -67,6 +62,8 @@ pub record Converted (d : Device) (e : Event) (o : Outcome) : Type 0 where
   pub lowkept : o .device .lowkept ≡ d .lowkept
   pub settings : o .device .settings ≡ d .settings
   pub acknowledged : o .acknowledged ≡ false
+  -- request b: with the diode connected, sample plus offset is off the scale
+  pub held : o .held ≡ heldBy d e
   pub byte : o .byte ≡ 0
 
 -- ---- conversions in a row

@@ -6,11 +6,14 @@ pub mod BothSides
 pub mod Examples
 pub mod Misread
 pub mod LowExamples
+pub mod HeldExamples
 pub mod Ends
 pub mod PowerOn
 pub mod Alerts
 pub mod Conversions
 pub mod Moves
 pub mod LowByte
+pub mod Held
+pub mod BeforeHeld
 pub mod Alike
 pub mod AfterConversion

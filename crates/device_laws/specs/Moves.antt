@@ -71,13 +71,17 @@ pendingAfter d PowerOn = false
 
 -- ---- the readings
 
+-- P2: sample plus offset, in whole eighths
+abbrev pub sumAt : Device → ℕ → ℕ → ℤ
+sumAt d high low = eighthsOf high low +ℤ eighthsOf (byteAt d 0x11) (byteAt d 0x12)
+
 -- held to -1024..1023
 abbrev pub heldTo : ℤ → ℤ
 heldTo sum = cond (ltZ (pos 1023) sum) (pos 1023) (cond (ltZ sum (negℤ (pos 1024))) (negℤ (pos 1024)) sum)
 
 -- P2: sample plus offset, held
 abbrev pub sampleOf : Device → ℕ → ℕ → ℤ
-sampleOf d high low = heldTo (eighthsOf high low +ℤ eighthsOf (byteAt d 0x11) (byteAt d 0x12))
+sampleOf d high low = heldTo (sumAt d high low)
 
 abbrev pub localAfter : Device → Event → ℕ
 localAfter d (Write a w v) = d .sensed .local
@@ -165,7 +169,7 @@ lowAfter d (Convert local high low) = keptLow d
 lowAfter d (Open local) = keptLow d
 lowAfter d PowerOn = (0, false)
 
--- ---- acknowledged, and a conversion taken
+-- ---- acknowledged, a conversion taken, and a reading held
 
 -- P7, P9: ALERT pulled and BF D0 = 0: the mask, configuration D7, is 0 and a bit of 7B is set in status
 abbrev pub answersAlert : Device → Bool
@@ -190,6 +194,20 @@ takenBy d (Receive a) = false
 takenBy d (Convert local high low) = takenOf d
 takenBy d (Open local) = takenOf d
 takenBy d PowerOn = false
+
+-- request b: above 1023 or below -1024
+abbrev pub offScale : ℤ → Bool
+offScale sum = ltZ (pos 1023) sum || ltZ sum (negℤ (pos 1024))
+
+-- request b: a conversion with the diode connected, kind 05, that is taken and whose sample plus offset is off the scale; no other event
+abbrev pub heldBy : Device → Event → Bool
+heldBy d (Write a w v) = false
+heldBy d (Read a r) = false
+heldBy d (Send a r) = false
+heldBy d (Receive a) = false
+heldBy d (Convert local high low) = takenOf d && offScale (sumAt d high low)
+heldBy d (Open local) = false
+heldBy d PowerOn = false
 
 -- ---- the settings
 

@@ -32,4 +32,6 @@ pub record PoweredOn (before : Device) (o : Outcome) : Type 0 where
   pub settings : o .device .settings ≡ printedOf (before .variant)
   pub acknowledged : o .acknowledged ≡ false
   pub taken : o .taken ≡ false
+  -- request b
+  pub held : o .held ≡ false
   pub byte : o .byte ≡ 0

@@ -111,16 +111,16 @@ eighths-within high low h k =
     within-add (within-8 (byte-within h)) (within-pos {n = low / 32} 8 (omega (arith, k .fits)))
 
 -- a held sum is on the scale, whatever the sum
-pub held-scale : (z : ℤ) → mag (heldOf z) < 1024
+pub held-scale : (z : ℤ) → mag (heldOf z .eighths) < 1024
 unfolding heldOf
 held-scale (pos n) = split (ltb 1023 n) refl
   where
-    split : (t : Bool) → ltb 1023 n ≡ t → mag (heldOf (pos n)) < 1024
+    split : (t : Bool) → ltb 1023 n ≡ t → mag (heldOf (pos n) .eighths) < 1024
     split true e = rw e (lit< tt)
     split false e = rw e (omega (arith, ltb-false 1023 n e))
 held-scale (negsuc n) = split (ltb 1023 n) refl
   where
-    split : (t : Bool) → ltb 1023 n ≡ t → mag (heldOf (negsuc n)) < 1024
+    split : (t : Bool) → ltb 1023 n ≡ t → mag (heldOf (negsuc n) .eighths) < 1024
     split true e = rw e (lit< tt)
     split false e = rw e (omega (arith, ltb-false 1023 n e))
 

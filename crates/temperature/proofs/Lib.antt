@@ -1,4 +1,5 @@
 pub mod Laws
+pub mod Held
 pub mod Bytes
 pub mod Whole
 pub mod TwosComplement

@@ -1,11 +1,12 @@
--- P1 to P3, and P8's comparison with limit minus hysteresis: temperatures, limits and offsets. A number of eighths of a degree is called t,
+-- P1 to P3, request b, and P8's comparison with limit minus hysteresis: temperatures, limits and offsets. A number of eighths of a degree is called t,
 -- a sum or a limit; bytes are as they stand in the registers. `pos n` is n, `negℤ (pos n)` is -n, and `negsuc n` is -(n + 1).
 -- Assumes nothing.
 use Prim.Native.Nat.{ℕ, suc, _-_, _*_, _/_, _%_}
-use mathlib.Core.Bool.{Bool, cond}
+use mathlib.Core.Bool.{Bool, true, false, cond}
 use lib.IntN.{ℤ, pos, negsuc, negℤ, _+ℤ_, _-ℤ_, _*ℤ_}
 use lib.Signed.{ltZ}
 use lib.Dec.{ltb}
+use Rattle.temperature.specs.declared.Reading.{Reading}
 
 -- ---- P1: two's complement
 
@@ -36,16 +37,19 @@ lowByteOf t = wordOf t % 8 * 32
 unfoldable pub sumOf : ℕ → ℕ → ℕ → ℕ → ℤ
 sumOf high low offsetHigh offsetLow = eighthsOf high low +ℤ eighthsOf offsetHigh offsetLow
 
--- held to -1024..1023
-unfoldable pub heldOf : ℤ → ℤ
-heldOf sum = cond (ltZ (pos 1023) sum) (pos 1023) (cond (ltZ sum (negℤ (pos 1024))) (negℤ (pos 1024)) sum)
+-- held to -1024..1023; request b: the reading also tells whether it was held at either end, which a sum of exactly 1023 or -1024 is not
+unfoldable pub heldOf : ℤ → Reading
+heldOf sum =
+    cond (ltZ (pos 1023) sum) (record { eighths = pos 1023; held = true })
+    (cond (ltZ sum (negℤ (pos 1024))) (record { eighths = negℤ (pos 1024); held = true })
+    (record { eighths = sum; held = false }))
 
-abbrev pub heldSumOf : ℕ → ℕ → ℕ → ℕ → ℤ
+abbrev pub heldSumOf : ℕ → ℕ → ℕ → ℕ → Reading
 heldSumOf high low offsetHigh offsetLow = heldOf (sumOf high low offsetHigh offsetLow)
 
--- an open diode gives 127 degrees with no offset
-abbrev pub openReading : ℤ
-openReading = pos 1016
+-- an open diode gives 127 degrees with no offset; request b: it is never held
+abbrev pub openReading : Reading
+openReading = record { eighths = pos 1016; held = false }
 
 -- ---- P3: out of limits
 

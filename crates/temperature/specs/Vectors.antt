@@ -1,11 +1,12 @@
 -- Worked temperatures, as theorems about the definitions: the rows of source document 004, section 9.3.5, the row +110 of 003,
--- and document 01's own numbers.
+-- document 01's own numbers, and the ends of the scale by request b.
 -- Assumes nothing.
 use mathlib.Core.Path.{_≡_, refl}
-use mathlib.Core.Bool.{true, false}
+use mathlib.Core.Bool.{Bool, true, false}
 use mathlib.Core.List.{List, [], _∷_, map}
 use Prim.Native.Nat.{ℕ}
 use lib.IntN.{ℤ, pos, negℤ}
+use Rattle.temperature.specs.declared.Reading.{Reading}
 use Rattle.temperature.specs.Temperature.{degreesOf, eighthsOf, sumOf, heldOf, highByteOf, lowByteOf, aboveOf, belowOf, clearedOf}
 
 pub record Row : Type 0 where
@@ -46,13 +47,35 @@ high-back = refl
 pub low-back : map (λ (r : Row). lowByteOf (r .eighths)) rows ≡ map (λ (r : Row). r .low) rows
 low-back = refl
 
--- a sum of exactly 1023 or -1024 is not held; 1024 and -1025 are
-pub ends : map heldOf (pos 1023 ∷ pos 1024 ∷ negℤ (pos 1024) ∷ negℤ (pos 1025) ∷ []) ≡ pos 1023 ∷ pos 1023 ∷ negℤ (pos 1024) ∷ negℤ (pos 1024) ∷ []
-unfolding heldOf
-ends = refl
+-- a sum, the reading that it gives, and whether that was held
+pub record End : Type 0 where
+  pub sum : ℤ
+  pub reading : Reading
 
--- 127.5 plus 1 is 1028 eighths before it is held, and -128 plus -1 is -1032
-pub sums : sumOf 0x7F 0x80 0x01 0x00 ∷ sumOf 0x80 0x00 0xFF 0x00 ∷ [] ≡ pos 1028 ∷ negℤ (pos 1032) ∷ []
+abbrev end : ℤ → ℤ → Bool → End
+end sum eighths held = record { sum = sum; reading = record { eighths = eighths; held = held } }
+
+-- request b: a sum of exactly 1023 or -1024 is not held; 1024 and -1025 are, and so are the largest and the smallest sum there can be
+abbrev pub ends : List End
+ends =
+    end (pos 1022) (pos 1022) false ∷
+    end (pos 1023) (pos 1023) false ∷
+    end (pos 1024) (pos 1023) true ∷
+    end (pos 2046) (pos 1023) true ∷
+    end (pos 0) (pos 0) false ∷
+    end (negℤ (pos 1023)) (negℤ (pos 1023)) false ∷
+    end (negℤ (pos 1024)) (negℤ (pos 1024)) false ∷
+    end (negℤ (pos 1025)) (negℤ (pos 1024)) true ∷
+    end (negℤ (pos 2048)) (negℤ (pos 1024)) true ∷
+    []
+
+pub held : map (λ (e : End). heldOf (e .sum)) ends ≡ map (λ (e : End). e .reading) ends
+unfolding heldOf
+held = refl
+
+-- 127.5 plus 1 is 1028 eighths before it is held, -128 plus -1 is -1032, and the ends of sample and offset give 2046 and -2048
+pub sums : sumOf 0x7F 0x80 0x01 0x00 ∷ sumOf 0x80 0x00 0xFF 0x00 ∷ sumOf 0x7F 0xE0 0x7F 0xE0 ∷ sumOf 0x80 0x00 0x80 0x00 ∷ []
+    ≡ pos 1028 ∷ negℤ (pos 1032) ∷ pos 2046 ∷ negℤ (pos 2048) ∷ []
 unfolding sumOf eighthsOf degreesOf
 sums = refl
 

@@ -1,14 +1,14 @@
-// Temperatures (P1 to P3): two's complement bytes, signed eighths of a degree, and their comparisons.
+// Temperatures (P1 to P3, request b): two's complement bytes, signed eighths of a degree, and their comparisons.
 ghost use mathlib.Core.Path.{_≡_};
-ghost use Rattle.temperature.specs.Temperature.{degreesOf, eighthsOf, heldOf, heldSumOf, aboveOf, belowOf, clearedOf, wordOf, highByteOf, lowByteOf};
+ghost use Rattle.temperature.specs.Temperature.{degreesOf, eighthsOf, heldOf, heldSumOf, openReading, aboveOf, belowOf, clearedOf, wordOf, highByteOf, lowByteOf};
 
 // The ends of the scale, in eighths.
 pub const LOWEST: i16 = -1024;
 
 pub const HIGHEST: i16 = 1023;
 
-// P2: the reading of an open diode, 127 degrees.
-pub const OPEN_READING: i16 = 1016;
+// 127 degrees.
+const OPEN_EIGHTHS: i16 = 1016;
 
 // P1: a byte as whole degrees.
 pub fn degrees(b: u8) -> i16
@@ -24,23 +24,48 @@ pub fn eighths(high: u8, low: u8) -> i16
     degrees(high) * 8 + (low / 32) as i16
 }
 
-fn hold(sum: i16) -> i16
+// A remote reading, and whether its sum was held at an end of the scale.
+pub struct Reading {
+    pub eighths: i16,
+    pub held: bool,
+}
+
+fn hold(sum: i16) -> Reading
     ensures { λ r. ⌜ r ≡ heldOf sum ⌝ }
 {
     if HIGHEST < sum {
-        HIGHEST
+        Reading {
+            eighths: HIGHEST,
+            held: true,
+        }
     } else if sum < LOWEST {
-        LOWEST
+        Reading {
+            eighths: LOWEST,
+            held: true,
+        }
     } else {
-        sum
+        Reading {
+            eighths: sum,
+            held: false,
+        }
     }
 }
 
 // P2: a sample plus an offset, whose low byte is `part`, held to the scale.
-pub fn held_sum(high: u8, low: u8, offset: u8, part: u8) -> i16
+pub fn held_sum(high: u8, low: u8, offset: u8, part: u8) -> Reading
     ensures { λ r. ⌜ r ≡ heldSumOf high low offset part ⌝ }
 {
     hold(eighths(high, low) + eighths(offset, part))
+}
+
+// P2: an open diode gives 127 degrees with no offset, and is never held.
+pub fn open_reading() -> Reading
+    ensures { λ r. ⌜ r ≡ openReading ⌝ }
+{
+    Reading {
+        eighths: OPEN_EIGHTHS,
+        held: false,
+    }
 }
 
 // P3: strictly above a limit.

@@ -1,7 +1,6 @@
 -- Assumes nothing.
 use borrow.Author.Needs.{needs}
 use Rattle.conversion.specs.Conversion.{readingOf}
-use Rattle.temperature.proofs.Laws.{same}
 use Rattle.registers.proofs.Settings.{offset, offset-part}
 use Rattle.conversion.proofs.reading.Statement.{statement}
 use Rattle.conversion.proofs.reading.Tie as tie
@@ -19,7 +18,7 @@ returns : tie.Need-returns
 unfolding readingOf
 returns c =
     let s = c .before .args .t1 in
-    rw (same (c .held-sum .result) (c .held-sum .ok), c .held-sum .ensures, offset s, offset-part s)
+    rw (c .held-sum .ensures, offset s, offset-part s)
 
 pub reading-spec : {M : Type 1} → statement M
 reading-spec =

@@ -27,7 +27,7 @@ unfolding sumOf
 returns c =
     let b = c .before in
     let a = b .before in
-    cc (same (a .eighths .result) (a .eighths .ok), same (b .eighths2 .result) (b .eighths2 .ok), same (c .hold .result) (c .hold .ok), toZ-ofZ (add-hold b))
+    cc (same (a .eighths .result) (a .eighths .ok), same (b .eighths2 .result) (b .eighths2 .ok), toZ-ofZ (add-hold b))
 
 pub held-sum-spec : {M : Type 1} → statement M
 held-sum-spec =

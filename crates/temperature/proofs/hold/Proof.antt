@@ -1,5 +1,4 @@
 -- Each arm's tests pick the case. Assumes nothing.
-use mathlib.Core.Path.{_∙_}
 use mir.Facts.{toZ-ofZ}
 use Rattle.temperature.specs.Temperature.{heldOf}
 use Rattle.temperature.proofs.hold.Statement.{statement}
@@ -19,7 +18,7 @@ returns-3 : tie.Need-returns-3
 unfolding heldOf
 returns-3 c =
     let s = toZ-ofZ (c .before .before .fits .sum) in
-    s ∙ simp (rw s at (c .before .if1 .left), rw s at (c .if2 .left))
+    simp (s, rw s at (c .before .if1 .left), rw s at (c .if2 .left))
 
 pub hold-spec : {M : Type 1} → statement M
 hold-spec = tie.close (tie.spec returns returns-2 returns-3)

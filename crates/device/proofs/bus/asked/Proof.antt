@@ -1,6 +1,5 @@
 -- Assumes nothing.
 use borrow.Author.Needs.{needs}
-use Rattle.temperature.proofs.Laws.{same}
 use borrow.Author.Tests.{eq-eqb, ne-eqb}
 use Rattle.device.specs.Asking.{askedOf}
 use Rattle.device.proofs.bus.asked.Statement.{statement}
@@ -39,6 +38,9 @@ reading-requires c κs = search needs
 enum-known-e-6 : tie.Need-enum-known-e-6
 enum-known-e-6 c = search needs
 
+open-reading-requires : tie.Need-open-reading-requires
+open-reading-requires c κs = search needs
+
 enum-told : tie.Need-enum-told
 enum-told c = search needs
 
@@ -64,11 +66,11 @@ returns-5 c = rw (c .at4 .ensures, c .before .before .before .e4 .given .1, ne-e
 
 returns-6 : tie.Need-returns-6
 unfolding askedOf
-returns-6 c = rw (same (c .reading .result) (c .reading .ok), c .reading .ensures, c .before .before .before .e5 .given .1)
+returns-6 c = rw (c .reading .ensures, c .before .before .before .e5 .given .1)
 
 returns-7 : tie.Need-returns-7
 unfolding askedOf
-returns-7 c = rw (c .before .e6 .given .1)
+returns-7 c = rw (c .open-reading .ensures, c .before .before .e6 .given .1)
 
 returns-8 : tie.Need-returns-8
 unfolding askedOf
@@ -89,6 +91,7 @@ asked-spec =
     enum-known-e-5
     reading-requires
     enum-known-e-6
+    open-reading-requires
     enum-told
     returns
     returns-2

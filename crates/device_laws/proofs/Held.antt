@@ -1,0 +1,101 @@
+-- Request b. `shown-exactly`: D4 of the first answer byte, for every device and event. `step-shows` and `step-rest`: of every step, refused ones too,
+-- and D5 to D7 are 0. `highest-not` and `lowest-not`: a sum of exactly 1023 or -1024 is not held. `open-never`, `bus-never`, `power-on-never`: no
+-- other event shows it. `told`: what it tells of the reading.
+-- Assumes nothing.
+use mathlib.Core.Path.{_≡_, refl, sym, ap, _∙_}
+use mathlib.Core.Bool.{Bool, true, false, _||_, _&&_, and-false, cond}
+use Prim.Native.Nat.{ℕ, _<_}
+use lib.IntN.{ℤ, pos, negℤ}
+use lib.Signed.{ltZ}
+use lib.Dec.{eqb, lit<}
+use Rattle.laws.proofs.Choices.{or-left, or-right}
+use Rattle.temperature.specs.Temperature.{heldOf}
+use Rattle.temperature.proofs.Held.{held-tells, held-not, held-high, held-low, held-other}
+use Rattle.registers.specs.Bits.{has}
+use Rattle.device.specs.declared.Device.{Device}
+use Rattle.device.specs.declared.Event.{Event}
+use Rattle.device.specs.declared.Event.the-variants.{Write, Read, Send, Receive, Convert, Open, PowerOn}
+use Rattle.device.specs.Profile.{OnBus}
+use Rattle.device.specs.Ranges.{variantOf, rangedOf, operandsOf}
+use Rattle.device.specs.Step.{effectOf, refusedOf, steppedOf, stepOf}
+use Rattle.device_laws.specs.Moves.{takenOf, sumAt, offScale, heldBy}
+use Rattle.device_laws.specs.Held.{showsHeld, Told}
+use Rattle.device_laws.proofs.Alerts.{answer-bits}
+use Rattle.device_laws.proofs.Moves.{held-to, held-exactly, remote-moves}
+
+-- ---- D4, exactly
+
+pub shown-exactly : (d : Device) (e : Event) → showsHeld (effectOf d e) ≡ heldBy d e
+shown-exactly d e = answer-bits (effectOf d e) .D4 ∙ held-exactly d e
+
+-- a refused step answers 0
+pub step-shows : (d : Device) (e : Event) → has (stepOf d e .first) 0x10 ≡ (eqb (stepOf d e .code) 0 && heldBy d e)
+unfolding stepOf
+step-shows d e = split (variantOf (d .variant) && rangedOf d) (operandsOf e)
+  where
+    split : (s t : Bool) →
+        let r = cond s (cond t (steppedOf (effectOf d e)) (refusedOf d 4)) (refusedOf d 8) in has (r .first) 0x10 ≡ (eqb (r .code) 0 && heldBy d e)
+    split true true = shown-exactly d e
+    split true false = refl
+    split false t = refl
+
+pub step-rest : (d : Device) (e : Event) → stepOf d e .first < 0x20
+unfolding stepOf
+step-rest d e = split (variantOf (d .variant) && rangedOf d) (operandsOf e)
+  where
+    split : (s t : Bool) → cond s (cond t (steppedOf (effectOf d e)) (refusedOf d 4)) (refusedOf d 8) .first < 0x20
+    split true true = answer-bits (effectOf d e) .rest
+    split true false = lit< tt
+    split false t = lit< tt
+
+-- ---- where it is not shown
+
+module _ (d : Device) (local high low : ℕ) where
+  unshown : (sum : ℤ) → offScale sum ≡ false → sumAt d high low ≡ sum → showsHeld (effectOf d (Convert local high low)) ≡ false
+  unshown sum on h =
+      shown-exactly d (Convert local high low) ∙ ap (λ (z : ℤ). takenOf d && offScale z) h ∙ ap (λ (t : Bool). takenOf d && t) on ∙ and-false (takenOf d)
+
+  pub highest-not : sumAt d high low ≡ pos 1023 → showsHeld (effectOf d (Convert local high low)) ≡ false
+  highest-not = unshown (pos 1023) refl
+
+  pub lowest-not : sumAt d high low ≡ negℤ (pos 1024) → showsHeld (effectOf d (Convert local high low)) ≡ false
+  lowest-not = unshown (negℤ (pos 1024)) refl
+
+  pub untaken-not : takenOf d ≡ false → showsHeld (effectOf d (Convert local high low)) ≡ false
+  untaken-not h = shown-exactly d (Convert local high low) ∙ ap (λ (t : Bool). t && offScale (sumAt d high low)) h
+
+pub open-never : (d : Device) (local : ℕ) → showsHeld (effectOf d (Open local)) ≡ false
+open-never d local = shown-exactly d (Open local)
+
+pub bus-never : (d : Device) (e : Event) → OnBus e → showsHeld (effectOf d e) ≡ false
+bus-never d (Write a w v) h = shown-exactly d (Write a w v)
+bus-never d (Read a r) h = shown-exactly d (Read a r)
+bus-never d (Send a r) h = shown-exactly d (Send a r)
+bus-never d (Receive a) h = shown-exactly d (Receive a)
+bus-never d (Convert local high low) h = absurd h
+bus-never d (Open local) h = absurd h
+bus-never d PowerOn h = absurd h
+
+pub power-on-never : (d : Device) → showsHeld (effectOf d PowerOn) ≡ false
+power-on-never d = shown-exactly d PowerOn
+
+-- ---- what it tells of the reading
+
+module _ (d : Device) (local high low : ℕ) (taken : takenOf d ≡ true) where
+  -- D4 and the reading are those of the held sum
+  shows : showsHeld (effectOf d (Convert local high low)) ≡ heldOf (sumAt d high low) .held
+  shows =
+      shown-exactly d (Convert local high low) ∙ ap (λ (t : Bool). t && offScale (sumAt d high low)) taken ∙ sym (held-tells (sumAt d high low))
+
+  reads : effectOf d (Convert local high low) .device .sensed .remote ≡ heldOf (sumAt d high low) .eighths
+  reads = remote-moves d (Convert local high low) ∙ rw taken (sym (held-to (sumAt d high low)))
+
+  pub told : Told (sumAt d high low) (effectOf d (Convert local high low))
+  told =
+      let sum = sumAt d high low in
+      record {
+        true-reading = λ h. reads ∙ held-not sum (sym shows ∙ h);
+        other-reading = λ h same. held-other sum (sym shows ∙ h) (sym reads ∙ same);
+        above = λ h. (shows ∙ held-tells sum ∙ or-left (ltZ (pos 1023) sum) (ltZ sum (negℤ (pos 1024))) h, reads ∙ held-high sum h);
+        below = λ h. (shows ∙ held-tells sum ∙ or-right (ltZ (pos 1023) sum) (ltZ sum (negℤ (pos 1024))) h, reads ∙ held-low sum h);
+      }
