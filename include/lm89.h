@@ -26,7 +26,7 @@ extern "C" {
  * The version of this header. Under another major number a struct or an answer is another: before any other call test
  * lm89_version() / LM89_VERSION_UNIT == LM89_VERSION_MAJOR.
  */
-#define LM89_VERSION_MAJOR 2
+#define LM89_VERSION_MAJOR 3
 #define LM89_VERSION_MINOR 0
 #define LM89_VERSION_UNIT 65536u
 
@@ -97,7 +97,7 @@ enum {
     LM89_WRITE_REMOTE_LOW_LIMIT = 0x0E,
     LM89_WRITE_ONE_SHOT = 0x0F,         /* any value: in standby one conversion is taken */
 
-    LM89_REGISTER_OFFSET = 0x11,        /* remote offset, high byte */
+    LM89_REGISTER_OFFSET = 0x11,        /* remote offset, high byte; LM89_ANSWER_HELD tells of a sum past the end of the scale */
     LM89_REGISTER_OFFSET_LOW_BYTE = 0x12,
     LM89_REGISTER_REMOTE_HIGH_LIMIT_LOW_BYTE = 0x13,
     LM89_REGISTER_REMOTE_LOW_LIMIT_LOW_BYTE = 0x14,
@@ -165,12 +165,18 @@ enum {
     LM89_CODE_RANGE = 8,        /* the device or reader handed in is out of its ranges */
 };
 
-/* Bits of the first answer byte; the other four are 0. The pins are as they stand after the record. */
+/*
+ * Bits of the first answer byte; the other three are 0. The pins are as they stand after the record. LM89_ANSWER_HELD is told at the record
+ * itself, by a taken conversion of LM89_KIND_CONVERSION alone: its sample plus the offset in force is above 1023 eighths of a degree or below
+ * -1024, and the remote reading stands at that end of the scale, 127.875 or -128 degrees. A sum of exactly 1023 or -1024 is not held, and an
+ * open diode never is. A device keeps the reading and nothing of whether it was held.
+ */
 enum {
     LM89_ANSWER_ALERT = 0x01,        /* ALERT is pulled */
     LM89_ANSWER_TCRIT = 0x02,        /* T_CRIT_A is pulled */
     LM89_ANSWER_ACKNOWLEDGED = 0x04, /* the bus event was acknowledged */
     LM89_ANSWER_TAKEN = 0x08,        /* the conversion was taken */
+    LM89_ANSWER_HELD = 0x10,         /* the conversion was taken, and its reading was held to the end of the scale */
 };
 
 /* What only taken conversions and power-on move. */

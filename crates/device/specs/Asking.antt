@@ -2,8 +2,9 @@
 -- called from one place. Nothing of document 01 stands here; `proofs/Asking.antt: asked-done` says that the detour is `effectOf`.
 -- Assumes nothing.
 use Prim.Native.Nat.{ℕ}
-use mathlib.Core.Bool.{true, false, cond}
+use mathlib.Core.Bool.{Bool, true, false, cond}
 use lib.Dec.{eqb}
+use Rattle.temperature.specs.declared.Reading.{Reading}
 use Rattle.temperature.specs.Temperature.{openReading}
 use Rattle.registers.specs.Page.{addressOf}
 use Rattle.conversion.specs.Conversion.{readingOf}
@@ -19,13 +20,17 @@ use Rattle.device.specs.Bus.{silentOf, putOf, getOf, pointOf, alertRespo
 abbrev pub askedAt : Device → ℕ → Asked → Asked
 askedAt d address asked = cond (eqb address (addressOf (d .variant))) asked Nothing
 
+-- a reading, in its two parts
+abbrev pub askedReading : ℕ → Reading → Bool → Asked
+askedReading local remote diodeOpen = Sense local (remote .eighths) (remote .held) diodeOpen
+
 unfoldable pub askedOf : Device → Event → Asked
 askedOf d (Write address w v) = askedAt d address (Put w v)
 askedOf d (Read address r) = askedAt d address (Get r)
 askedOf d (Send address r) = askedAt d address (Point r)
 askedOf d (Receive address) = cond (eqb address alertResponse) Respond (askedAt d address (Get (d .pointer)))
-askedOf d (Convert local high low) = Sense local (readingOf (d .settings) high low) false
-askedOf d (Open local) = Sense local openReading true
+askedOf d (Convert local high low) = askedReading local (readingOf (d .settings) high low) false
+askedOf d (Open local) = askedReading local openReading true
 askedOf d PowerOn = Restart
 
 unfoldable pub doneOf : Device → Asked → Outcome
@@ -33,6 +38,6 @@ doneOf d (Put w v) = putOf d w v
 doneOf d (Get r) = getOf d r
 doneOf d (Point r) = pointOf d r
 doneOf d Respond = respondOf d
-doneOf d (Sense local remote diodeOpen) = senseOf d local remote diodeOpen
+doneOf d (Sense local eighths held diodeOpen) = senseOf d local (record { eighths = eighths; held = held }) diodeOpen
 doneOf d Restart = silentOf (poweredOf (d .variant))
 doneOf d Nothing = silentOf d

@@ -281,9 +281,13 @@ pub(crate) fn asked(d: Device, e: Event) -> Asked
         },
         Event::Convert(local, high, low) => {
             let s = d.settings;
-            Asked::Sense(local, conversion::reading(s, high, low), false)
+            let remote = conversion::reading(s, high, low);
+            Asked::Sense(local, remote.eighths, remote.held, false)
         }
-        Event::Open(local) => Asked::Sense(local, temperature::open_reading(), true),
+        Event::Open(local) => {
+            let remote = temperature::open_reading();
+            Asked::Sense(local, remote.eighths, remote.held, true)
+        }
         Event::PowerOn => Asked::Restart,
     }
 }

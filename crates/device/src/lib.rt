@@ -33,23 +33,23 @@ pub enum Event {
     PowerOn,
 }
 
-// What an event asks of the device at hand.
+// What an event asks of the device at hand. Sense: local byte, remote reading in eighths, whether it was held, whether the diode is broken open.
 pub enum Asked {
     Put(u8, u8),
     Get(u8),
     Point(u8),
     Respond,
-    Sense(u8, Reading, bool),
+    Sense(u8, i16, bool, bool),
     Restart,
     Nothing,
 }
 
-// What an event does: the device after it, whether a reading was held to the scale, and the byte read or 0.
+// What an event does: a conversion taken, its reading held; the device after it; acknowledged, and the byte read or 0. In the fastest order.
 pub struct Outcome {
-    pub device: Device,
-    pub acknowledged: bool,
     pub taken: bool,
     pub held: bool,
+    pub device: Device,
+    pub acknowledged: bool,
     pub byte: u8,
 }
 
@@ -74,7 +74,12 @@ fn done(d: Device, asked: Asked) -> Outcome
         Asked::Get(reg) => bus::get(d, reg),
         Asked::Point(reg) => bus::point(d, reg),
         Asked::Respond => bus::respond(d),
-        Asked::Sense(local, remote, broken) => bus::sense(d, local, remote, broken),
+        Asked::Sense(local, eighths, held, broken) => bus::sense(
+            d,
+            local,
+            Reading { eighths, held },
+            broken,
+        ),
         Asked::Restart => bus::silent(bus::powered(d.variant)),
         Asked::Nothing => bus::silent(d),
     }

@@ -2,7 +2,7 @@
 -- acknowledged, taken and the byte read; `first-as-before`, D4 apart the first answer byte too; `run-as-before`, over every row of events the
 -- codes, the answer bytes with D4 cleared and the end device are those before.
 -- Assumes nothing.
-use mathlib.Core.Path.{_≡_, refl, sym, ap, _∙_}
+use mathlib.Core.Path.{_≡_, refl, ap, _∙_}
 use mathlib.Core.Bool.{Bool, true, false, cond, _&&_}
 use mathlib.Core.List.{List, [], _∷_, map}
 use Prim.Native.Nat.{ℕ, _%_, _^_, _<_}
@@ -23,7 +23,7 @@ use Rattle.device.specs.declared.Stepped.{Stepped}
 use Rattle.device.specs.declared.Event.{Event}
 use Rattle.device.specs.declared.Event.the-variants.{Write, Read, Send, Receive, Convert, Open, PowerOn}
 use Rattle.device.specs.Pins.{pinsOf, firstOf}
-use Rattle.device.specs.Bus.{silentOf, putOf, getOf, pointOf, respondsOf, respondOf, takesOf, convertedOf, takingOf, senseOf, alertResponse, atOf}
+use Rattle.device.specs.Bus.{silentOf, putOf, getOf, pointOf, respondsOf, respondOf, takesOf, takingOf, senseOf, alertResponse, atOf}
 use Rattle.device.specs.Ranges.{variantOf, rangedOf, operandsOf}
 use Rattle.device.specs.Step.{effectOf, answerOf, refusedOf, steppedOf, stepOf}
 use Rattle.device.specs.Run.{Reply, repliesOf, afterOf}

@@ -2,7 +2,7 @@
 -- `count-in-a-row`: the fault count over faults in a row (P4).
 -- Assumes nothing.
 use mathlib.Core.Path.{_≡_, refl, _∙_}
-use mathlib.Core.Bool.{Bool, true, false}
+use mathlib.Core.Bool.{Bool, true}
 use mathlib.Core.List.{List, [], _∷_}
 use Prim.Native.Nat.{ℕ, _+_, min, _≤_}
 use native.Mathlib.Omega.{arith}

@@ -3,7 +3,7 @@
 -- other event shows it. `told`: what it tells of the reading.
 -- Assumes nothing.
 use mathlib.Core.Path.{_≡_, refl, sym, ap, _∙_}
-use mathlib.Core.Bool.{Bool, true, false, _||_, _&&_, and-false, cond}
+use mathlib.Core.Bool.{Bool, true, false, _&&_, and-false, cond}
 use Prim.Native.Nat.{ℕ, _<_}
 use lib.IntN.{ℤ, pos, negℤ}
 use lib.Signed.{ltZ}

@@ -1,6 +1,9 @@
 -- Assumes nothing.
 use borrow.Author.Needs.{needs}
 use borrow.Author.Tests.{eq-eqb, ne-eqb}
+use mir.Facts.{toZ-ofZ}
+use mir.Val.{SFits}
+use mir.Syntax.{w16}
 use Rattle.device.specs.Asking.{askedOf}
 use Rattle.device.proofs.bus.asked.Statement.{statement}
 use Rattle.device.proofs.bus.asked.Tie as tie
@@ -66,11 +69,17 @@ returns-5 c = rw (c .at4 .ensures, c .before .before .before .e4 .given .1, ne-e
 
 returns-6 : tie.Need-returns-6
 unfolding askedOf
-returns-6 c = rw (c .reading .ensures, c .before .before .before .e5 .given .1)
+returns-6 c =
+    let read = c .before in
+    let told : SFits w16 (read .reading .result .eighths) = search needs in
+    rw (toZ-ofZ told, read .reading .ensures, read .before .before .before .e5 .given .1)
 
 returns-7 : tie.Need-returns-7
 unfolding askedOf
-returns-7 c = rw (c .open-reading .ensures, c .before .before .e6 .given .1)
+returns-7 c =
+    let read = c .before in
+    let told : SFits w16 (read .open-reading .result .eighths) = search needs in
+    rw (toZ-ofZ told, read .open-reading .ensures, read .before .before .e6 .given .1)
 
 returns-8 : tie.Need-returns-8
 unfolding askedOf
