@@ -67,8 +67,8 @@ blocks() {
 # The example of reading in blocks counts what the listing shows.
 streamed() {
     awk '
-        $1 != "end" { first = index("0123456789ABCDEF", substr($2, 2)) - 1; alert += first % 2; tcrit += int(first / 2) % 2 }
-        $1 == "end" { printf "%d records, ALERT pulled after %d, T_CRIT_A after %d, code %d\n", $2, alert, tcrit, $3 }
+        $1 != "end" { first = index("0123456789ABCDEF", substr($2, 2)) - 1; alert += first % 2; tcrit += int(first / 2) % 2; held += substr($2, 1, 1) }
+        $1 == "end" { printf "%d records, ALERT pulled after %d, T_CRIT_A after %d, readings held at %d, code %d\n", $2, alert, tcrit, held, $3 }
     ' build/expected >build/counted
     run build/stream <build/capture >build/listed || stop "examples/stream.c failed on the large capture"
     same build/counted build/listed "examples/stream.c counts otherwise than the listing"
@@ -108,6 +108,7 @@ is_cpp examples/pair.c
 printf 'c++: headers ok\n'
 passes layout tests/c/layout.c
 passes run tests/c/run.c
+passes held tests/c/held.c
 passes feed tests/c/feed.c
 passes write tests/c/write.c
 program list tests/c/list.c
