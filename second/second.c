@@ -1,6 +1,6 @@
 /* The core of the second implementation; see second.h and NOTES.md.
- * P1 to P12 are the rulings of document 01; a is document 02's request, in the
- * place of P12's first sentence. */
+ * P1 to P12 are the rulings of document 01; a and b are document 02's requests, a
+ * in the place of P12's first sentence, b beside P2. */
 #include "second.h"
 
 #include <string.h>
@@ -145,7 +145,8 @@ enum {
     ANSWER_ALERT = 0x01,
     ANSWER_T_CRIT_A = 0x02,
     ANSWER_ACKNOWLEDGED = 0x04,
-    ANSWER_TAKEN = 0x08
+    ANSWER_TAKEN = 0x08,
+    ANSWER_HELD = 0x10   /* b */
 };
 
 enum {
@@ -385,16 +386,20 @@ static inline bool convert(second_device *device, uint8_t local_byte, int remote
     return true;
 }
 
-/* P2: sample plus offset, held to the eleven bits. */
-static inline int offset_reading(const second_device *device, uint8_t high, uint8_t low)
+/* P2 and b: a conversion of kind 05, whose reading is the sum of sample and offset,
+ * held to the eleven bits.  Gives what the first answer byte shows of it: taken and,
+ * if the sum was held, held; 0 if it is not taken. */
+static inline unsigned convert_sample(second_device *device, second_event event)
 {
-    int reading = eighths(high, low) +
-                  eighths(device->settings[SET_OFFSET], device->settings[SET_OFFSET_FINE]);
-    if (reading > REMOTE_MOST)
-        return REMOTE_MOST;
-    if (reading < REMOTE_LEAST)
-        return REMOTE_LEAST;
-    return reading;
+    const uint8_t *set = device->settings;
+    int sum = eighths(event.b, event.c) + eighths(set[SET_OFFSET], set[SET_OFFSET_FINE]);
+    int reading = sum;
+    unsigned shown = ANSWER_TAKEN;
+    if (sum < REMOTE_LEAST || sum > REMOTE_MOST) {
+        reading = sum < 0 ? REMOTE_LEAST : REMOTE_MOST;
+        shown |= ANSWER_HELD;
+    }
+    return convert(device, event.a, reading, 0) ? shown : 0;
 }
 
 /* P9 and P10: true if the receive is acknowledged. */
@@ -411,40 +416,44 @@ static bool receive(second_device *device, uint8_t address, uint8_t *value)
     return address == own && read_register(device, device->pointer, value);
 }
 
+/* P10: an acknowledged write, read or send sets the pointer.  Gives what the first
+ * answer byte shows of it. */
+static inline unsigned point_at(second_device *device, uint8_t address)
+{
+    device->pointer = address;
+    return ANSWER_ACKNOWLEDGED;
+}
+
 /* One event within the table, on a device within its ranges. */
 static inline void apply(second_device *device, second_event event,
                          uint8_t *first, uint8_t *second)
 {
     uint8_t own = part[device->variant & 3].address;
     uint8_t value = 0;
-    bool acknowledged = false;
-    bool taken = false;
+    unsigned shown = 0; /* in the first answer byte, besides the pins */
 
     switch (event.kind) {
     case SECOND_WRITE:
-        acknowledged = event.a == own && write_register(device, event.b, event.c);
-        if (acknowledged)
-            device->pointer = event.b;
+        if (event.a == own && write_register(device, event.b, event.c))
+            shown = point_at(device, event.b);
         break;
     case SECOND_READ:
-        acknowledged = event.a == own && read_register(device, event.b, &value);
-        if (acknowledged)
-            device->pointer = event.b;
+        if (event.a == own && read_register(device, event.b, &value))
+            shown = point_at(device, event.b);
         break;
     case SECOND_SEND:
-        acknowledged = event.a == own && (read_role[event.b] != ROLE_NONE ||
-                                          write_role[event.b] != ROLE_NONE);
-        if (acknowledged)
-            device->pointer = event.b;
+        if (event.a == own && (read_role[event.b] != ROLE_NONE ||
+                               write_role[event.b] != ROLE_NONE))
+            shown = point_at(device, event.b);
         break;
     case SECOND_RECEIVE:
-        acknowledged = receive(device, event.a, &value);
+        shown = receive(device, event.a, &value) ? ANSWER_ACKNOWLEDGED : 0;
         break;
     case SECOND_CONVERSION:
-        taken = convert(device, event.a, offset_reading(device, event.b, event.c), 0);
+        shown = convert_sample(device, event);
         break;
-    case SECOND_CONVERSION_OPEN:
-        taken = convert(device, event.a, REMOTE_OPEN, OPEN);
+    case SECOND_CONVERSION_OPEN: /* b: P2 has no sum here, so none is held */
+        shown = convert(device, event.a, REMOTE_OPEN, OPEN) ? ANSWER_TAKEN : 0;
         break;
     default: /* power-on */
         second_power_on(device, device->variant);
@@ -452,9 +461,7 @@ static inline void apply(second_device *device, second_event event,
     }
 
     *first = (uint8_t)((alert_pulled(device) ? ANSWER_ALERT : 0) |
-                       (t_crit_a_pulled(device) ? ANSWER_T_CRIT_A : 0) |
-                       (acknowledged ? ANSWER_ACKNOWLEDGED : 0) |
-                       (taken ? ANSWER_TAKEN : 0));
+                       (t_crit_a_pulled(device) ? ANSWER_T_CRIT_A : 0) | shown);
     *second = value;
 }
 

@@ -1,7 +1,7 @@
-/* Second implementation of document 01 (01-scope.md) and of request a of
- * document 02 (02-change-requests.md), written from their words, the two
- * datasheets and the comments of lm89.h alone.  The core: no allocation, no
- * changing globals, every function total. */
+/* Second implementation of document 01 (01-scope.md) and of requests a and b of
+ * document 02 (02-change-requests.md), written from the sources that NOTES.md
+ * names alone.  The core: no allocation, no changing globals, every function
+ * total. */
 #ifndef SECOND_H
 #define SECOND_H
 
@@ -86,7 +86,7 @@ typedef struct second_event {
 
 typedef struct second_step_result {
     uint8_t code;        /* 8, 3, 4 or 0 */
-    uint8_t first;       /* pins, acknowledged, taken */
+    uint8_t first;       /* pins, acknowledged, taken; request b: sum held */
     uint8_t second;      /* the byte read, or 0 */
 } second_step_result;
 

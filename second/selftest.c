@@ -1,5 +1,5 @@
-/* Hand-made scripts from the rulings of document 01 and from request a of
- * document 02, and the cut test.
+/* Hand-made scripts from the rulings of document 01 and from requests a and b of
+ * document 02, every sum of sample and offset, and the cut test.
  *   gcc -std=c11 -Wall -Wextra -Werror -pedantic -g -fsanitize=address,undefined \
  *       second.c selftest.c -o selftest && ./selftest */
 #include "second.h"
@@ -84,8 +84,8 @@ static void scripts(void)
            WR(9, 0, 4), CV(0, 0xFF, 0xE0, 9), RD(1, 5, 0xFF), RD(0x10, 5, 0xE0), RD(2, 4, 8),
            WR(9, 0, 4), WR(0x0E, 0xFF, 4), WR(0x14, 0xE0, 4), CV(0, 0xFF, 0xE0, 8),
            CV(0, 0xFF, 0xC0, 9));
-    SCRIPT("P2", 1, WR(0x11, 1, 4), CV(0, 0x7F, 0x80, 0x0B), RD(1, 7, 0x7F), RD(0x10, 7, 0xE0),
-           WR(0x11, 0xFF, 7), CV(0, 0x80, 0, 9), RD(1, 5, 0x80), RD(0x10, 5, 0),
+    SCRIPT("P2", 1, WR(0x11, 1, 4), CV(0, 0x7F, 0x80, 0x1B), RD(1, 7, 0x7F), RD(0x10, 7, 0xE0),
+           WR(0x11, 0xFF, 7), CV(0, 0x80, 0, 0x19), RD(1, 5, 0x80), RD(0x10, 5, 0),
            WR(0x11, 5, 5), CO(0, 0x0B), RD(1, 7, 0x7F), RD(0x10, 7, 0), RD(2, 6, 0x1E));
     SCRIPT("P3 remote", 1, WR(0x19, 85, 4), WR(0x0D, 127, 4), CV(0, 85, 0, 8),
            RD(2, 4, 0), CV(0, 85, 0x20, 0x0B), RD(2, 6, 2), WR(0x0D, 10, 6), WR(0x13, 0x20, 6),
@@ -226,8 +226,8 @@ static void low_byte_scripts(void)
     SCRIPT("a, of the reading, not the sample", 1, WR(0x12, 0x40, 4), CV(0, 1, 0x20, 8),
            RD(1, 4, 1), WR(0x12, 0x80, 4), CV(0, 2, 0x20, 8), RD(0x10, 4, 0x60),
            RD(0x10, 4, 0xA0));
-    SCRIPT("a, both ends of the scale", 1, WR(0x11, 1, 4), CV(0, 0x7F, 0x80, 0x0B), RD(1, 7, 0x7F),
-           WR(0x11, 0xFF, 7), CV(0, 0x80, 0, 9), RD(0x10, 5, 0xE0), RD(1, 5, 0x80),
+    SCRIPT("a, both ends of the scale", 1, WR(0x11, 1, 4), CV(0, 0x7F, 0x80, 0x1B), RD(1, 7, 0x7F),
+           WR(0x11, 0xFF, 7), CV(0, 0x80, 0, 0x19), RD(0x10, 5, 0xE0), RD(1, 5, 0x80),
            WR(0x11, 0, 5), CV(0, 0xFF, 0xE0, 9), RD(0x10, 5, 0), RD(0x10, 5, 0xE0));
 }
 
@@ -273,6 +273,345 @@ static void kept_after_records(void)
         CHECK(second_step(&device, event).code == 0);
         check(device.lowkept == line[i].lowkept && device.low == line[i].low,
               "kept after record", (int)i + 1);
+    }
+}
+
+/* Request b: D4 of the first answer byte.  QUIET masks ALERT and both T_CRIT, so that
+ * a conversion answers 18 if taken with its sum held, 08 if taken else, 00 if not
+ * taken.  Sums are in eighths; READS is the reading. */
+#define QUIET WR(9, 0x94, 4)
+#define QUIET_STANDBY WR(9, 0xD4, 4)
+#define OFFSET(h, lo) WR(0x11, h, 4), WR(0x12, lo, 4)
+#define READS(h, lo) RD(1, 4, h), RD(0x10, 4, lo)
+
+/* Both sides of both ends, by the largest and the smallest offset and others. */
+static void held_sum_ends(void)
+{
+    SCRIPT("b, offset 1023: sums 1023, 1024, 2046, 1022, -1", 1, QUIET, OFFSET(0x7F, 0xE0),
+           CV(0, 0, 0, 8), READS(0x7F, 0xE0), CV(0, 0, 0x20, 0x18), READS(0x7F, 0xE0),
+           CV(0, 0x7F, 0xE0, 0x18), READS(0x7F, 0xE0), CV(0, 0xFF, 0xE0, 8), READS(0x7F, 0xC0),
+           CV(0, 0x80, 0, 8), READS(0xFF, 0xE0));
+    SCRIPT("b, offset -1024: sums -1024, -1025, -2048, -1023, -1", 1, QUIET, OFFSET(0x80, 0),
+           CV(0, 0, 0, 8), READS(0x80, 0), CV(0, 0xFF, 0xE0, 0x18), READS(0x80, 0),
+           CV(0, 0x80, 0, 0x18), READS(0x80, 0), CV(0, 0, 0x20, 8), READS(0x80, 0x20),
+           CV(0, 0x7F, 0xE0, 8), READS(0xFF, 0xE0));
+    SCRIPT("b, offset 1: sums 1023, 1024, -1023", 1, QUIET, OFFSET(0, 0x20),
+           CV(0, 0x7F, 0xC0, 8), READS(0x7F, 0xE0), CV(0, 0x7F, 0xE0, 0x18), READS(0x7F, 0xE0),
+           CV(0, 0x80, 0, 8), READS(0x80, 0x20));
+    SCRIPT("b, offset -1: sums -1024, -1025, 1022", 1, QUIET, OFFSET(0xFF, 0xE0),
+           CV(0, 0x80, 0x20, 8), READS(0x80, 0), CV(0, 0x80, 0, 0x18), READS(0x80, 0),
+           CV(0, 0x7F, 0xE0, 8), READS(0x7F, 0xC0));
+    SCRIPT("b, offset 8: sums 1023, 1024", 1, QUIET, OFFSET(1, 0),
+           CV(0, 0x7E, 0xE0, 8), READS(0x7F, 0xE0), CV(0, 0x7F, 0, 0x18), READS(0x7F, 0xE0));
+    SCRIPT("b, offset -8: sums -1024, -1025", 1, QUIET, OFFSET(0xFF, 0),
+           CV(0, 0x81, 0, 8), READS(0x80, 0), CV(0, 0x80, 0xE0, 0x18), READS(0x80, 0));
+    SCRIPT("b, offset 85: sums 1023, 1024", 1, QUIET, OFFSET(0x0A, 0xA0),
+           CV(0, 0x75, 0x40, 8), READS(0x7F, 0xE0), CV(0, 0x75, 0x60, 0x18), READS(0x7F, 0xE0));
+    SCRIPT("b, offset -85: sums -1024, -1025", 1, QUIET, OFFSET(0xF5, 0x60),
+           CV(0, 0x8A, 0xA0, 8), READS(0x80, 0), CV(0, 0x8A, 0x80, 0x18), READS(0x80, 0));
+    SCRIPT("b, offset 512: sums 1023, 1024", 1, QUIET, OFFSET(0x40, 0),
+           CV(0, 0x3F, 0xE0, 8), READS(0x7F, 0xE0), CV(0, 0x40, 0, 0x18), READS(0x7F, 0xE0));
+    SCRIPT("b, offset -512: sums -1024, -1025", 1, QUIET, OFFSET(0xC0, 0),
+           CV(0, 0xC0, 0, 8), READS(0x80, 0), CV(0, 0xBF, 0xE0, 0x18), READS(0x80, 0));
+}
+
+/* What is in the sum and what is not. */
+static void held_sum_parts(void)
+{
+    SCRIPT("b, offset 0, samples at the ends", 1, QUIET, CV(0, 0x7F, 0xE0, 8),
+           READS(0x7F, 0xE0), CV(0, 0x80, 0, 8), READS(0x80, 0), CV(0, 0, 0, 8),
+           CV(0, 0xFF, 0xE0, 8), CV(0, 0x7F, 0, 8));
+    SCRIPT("b, local readings are not in the sum", 1, QUIET, OFFSET(0x7F, 0xE0),
+           CV(0x7F, 0, 0, 8), RD(0, 4, 0x7F), CV(0x80, 0, 0x20, 0x18), RD(0, 4, 0x80),
+           OFFSET(0x80, 0), CV(0x80, 0, 0, 8), CV(0x7F, 0xFF, 0xE0, 0x18));
+    SCRIPT("b, low byte of the offset, 8 to 9 and back", 1, QUIET, OFFSET(1, 0),
+           CV(0, 0x7E, 0xE0, 8), WR(0x12, 0x20, 4), CV(0, 0x7E, 0xE0, 0x18), WR(0x12, 0, 4),
+           CV(0, 0x7E, 0xE0, 8));
+    SCRIPT("b, low byte of the offset, -8 to -7 and back", 1, QUIET, OFFSET(0xFF, 0),
+           CV(0, 0x80, 0xE0, 0x18), WR(0x12, 0x20, 4), CV(0, 0x80, 0xE0, 8), READS(0x80, 0),
+           CV(0, 0x80, 0xC0, 0x18), WR(0x12, 0, 4), CV(0, 0x80, 0xE0, 0x18));
+    SCRIPT("b, low byte alone", 1, QUIET, WR(0x12, 0xE0, 4), CV(0, 0x7F, 0, 8),
+           READS(0x7F, 0xE0), CV(0, 0x7F, 0x20, 0x18));
+    SCRIPT("b, high byte alone", 1, QUIET, WR(0x11, 0x7F, 4), CV(0, 0, 0xE0, 8),
+           READS(0x7F, 0xE0), CV(0, 1, 0, 0x18));
+    SCRIPT("b, dropped bits of 12 are not in the sum", 1, QUIET, OFFSET(1, 0x1F),
+           RD(0x12, 4, 0), CV(0, 0x7E, 0xE0, 8), WR(0x12, 0x3F, 4), RD(0x12, 4, 0x20),
+           CV(0, 0x7E, 0xC0, 8), CV(0, 0x7E, 0xE0, 0x18), OFFSET(0xFF, 0x1F),
+           CV(0, 0x81, 0, 8), CV(0, 0x80, 0xE0, 0x18), OFFSET(0x7F, 0xFF), CV(0, 0, 0, 8),
+           CV(0, 0, 0x20, 0x18));
+    SCRIPT("b, the offset that stands at the conversion", 1, QUIET, CV(0, 0x7F, 0xE0, 8),
+           OFFSET(0x7F, 0xE0), READS(0x7F, 0xE0), CV(0, 0x7F, 0xE0, 0x18), WR(0x11, 0, 4),
+           CV(0, 0x7F, 0xE0, 0x18), WR(0x12, 0, 4), CV(0, 0x7F, 0xE0, 8), WR(0x11, 1, 4),
+           CV(0, 0x7F, 0xE0, 0x18), PO, QUIET, CV(0, 0x7F, 0xE0, 8));
+    SCRIPT("b, offset written at another address or not in W", 1, QUIET,
+           { { 1, 0x4D, 0x11, 0x7F }, 0, 0 }, WR(0x10, 0xE0, 0), WR(1, 0x7F, 0),
+           CV(0, 0x7F, 0xE0, 8), CV(0, 0x80, 0, 8));
+    SCRIPT("b, from one end to the other", 1, QUIET, OFFSET(0x40, 0), CV(0, 0x7F, 0xE0, 0x18),
+           OFFSET(0xC0, 0), CV(0, 0x7F, 0xE0, 8), CV(0, 0x80, 0, 0x18), OFFSET(0x40, 0),
+           CV(0, 0x80, 0, 8));
+}
+
+/* Pins, limits, fault queue and variant do not move it, nor it them. */
+static void held_sum_beside_pins(void)
+{
+    SCRIPT("b, pins as they stand", 1, WR(0x11, 1, 4), CV(0, 0x7E, 0xE0, 0x0B),
+           CV(0, 0x7F, 0, 0x1B), WR(9, 0x80, 6), CV(0, 0x7F, 0, 0x1A), WR(9, 0x10, 5),
+           CV(0, 0x7F, 0, 0x19), WR(9, 0x90, 4), CV(0, 0x7F, 0, 0x18), CV(0, 0x7E, 0xE0, 8));
+    SCRIPT("b, limits that nothing passes", 1, WR(0x0D, 0x7F, 4), WR(0x13, 0xE0, 4),
+           WR(0x0E, 0x80, 4), WR(0x11, 0xFF, 4), CV(0, 0x80, 0, 0x18), CV(0, 0x81, 0, 8),
+           RD(2, 4, 0));
+    SCRIPT("b, fault queue", 1, WR(9, 1, 4), WR(0x11, 1, 4), CV(0, 0x7F, 0, 0x18),
+           CV(0, 0x7F, 0, 0x18), CV(0, 0x7F, 0, 0x1B), CV(0, 0x7E, 0xE0, 0x0B), CO(0, 0x0B));
+    SCRIPT("b, comparator", 1, WR(0xBF, 1, 4), WR(0x11, 1, 4), CV(0, 0x7F, 0, 0x1B),
+           CV(0, 1, 0, 8), WR(0x11, 0xFF, 4), CV(0, 0x80, 0, 0x19), CV(0, 1, 0, 8));
+    SCRIPT("b, at 4D", 2, { { 1, 0x4D, 0x11, 1 }, 4, 0 }, CV(0, 0x7E, 0xE0, 0x0B),
+           CV(0, 0x7F, 0, 0x1B));
+    SCRIPT("b, at 4D, local T_CRIT 105", 3, { { 1, 0x4D, 0x11, 0xFF }, 4, 0 },
+           CV(0, 0x81, 0, 9), CV(0, 0x80, 0, 0x19));
+}
+
+/* An open diode has no sum; a conversion that is not taken does not show its own. */
+static void held_sum_not_shown(void)
+{
+    SCRIPT("b, open diode", 1, QUIET, OFFSET(0x7F, 0xE0), CO(0, 8), READS(0x7F, 0),
+           OFFSET(0x80, 0), CO(0, 8), READS(0x7F, 0), OFFSET(0, 0xE0), CO(0, 8),
+           OFFSET(1, 0), CO(0, 8), READS(0x7F, 0), CO(0x7F, 8), CO(0x80, 8), OFFSET(0xFF, 0),
+           CO(0, 8), OFFSET(0x40, 0), CO(0, 8), OFFSET(0xC0, 0), CO(0, 8));
+    SCRIPT("b, open diode beside held sums", 1, WR(0x11, 0x7F, 4), CO(0, 0x0B),
+           CV(0, 0x7F, 0, 0x1B), CO(0, 0x0B), CV(0, 1, 0, 0x1B), CO(0, 0x0B));
+    SCRIPT("b, standby", 1, OFFSET(0x7F, 0xE0), QUIET_STANDBY, CV(0, 1, 0, 0), READS(0, 0),
+           WR(0x0F, 0, 4), CV(0, 1, 0, 0x18), READS(0x7F, 0xE0), CV(0, 1, 0, 0),
+           WR(0x0F, 0, 4), CV(0, 0, 0, 8), CV(0, 0, 0x20, 0), WR(0x0F, 0, 4), CO(0, 8),
+           CV(0, 1, 0, 0), QUIET, CV(0, 1, 0, 0x18));
+    SCRIPT("b, standby, lower end", 1, OFFSET(0x80, 0), QUIET_STANDBY, CV(0, 0x80, 0, 0),
+           WR(0x0F, 0, 4), CV(0, 0xFF, 0xE0, 0x18), CV(0, 0x80, 0, 0), WR(0x0F, 0, 4),
+           CV(0, 0, 0, 8), CV(0, 0xFF, 0xE0, 0), QUIET, CV(0, 0xFF, 0xE0, 0x18));
+    SCRIPT("b, not taken, pins pulled", 1, WR(0x11, 1, 4), CV(0, 0x7F, 0, 0x1B), WR(9, 0x40, 7),
+           CV(0, 0x7F, 0, 3), CV(0, 0x7E, 0xE0, 3), CO(0, 3), WR(0x0F, 0, 7),
+           CV(0, 0x7F, 0, 0x1B), CV(0, 0x7F, 0, 3));
+    SCRIPT("b, one-shot let go by leaving standby", 1, OFFSET(0x7F, 0xE0), QUIET_STANDBY,
+           WR(0x0F, 0, 4), QUIET, QUIET_STANDBY, CV(0, 1, 0, 0));
+}
+
+/* It is of the one record: whatever comes next, or before, shows none. */
+static void held_sum_of_one_record(void)
+{
+    SCRIPT("b, conversions next to it", 1, QUIET, OFFSET(1, 0), CV(0, 0x7F, 0, 0x18),
+           CV(0, 0x7E, 0xE0, 8), CV(0, 0x7F, 0, 0x18), CO(0, 8), CV(0, 0x7F, 0, 0x18),
+           QUIET_STANDBY, CV(0, 0x7F, 0, 0), QUIET, CV(0, 0x7F, 0, 0x18), CV(0, 0x7F, 0x20, 0x18),
+           CV(0, 0, 0, 8));
+    SCRIPT("b, reads and writes next to it", 1, QUIET, OFFSET(1, 0), CV(0, 0x7F, 0, 0x18),
+           RD(0, 4, 0), CV(0, 0x7F, 0, 0x18), RD(1, 4, 0x7F), CV(0, 0x7F, 0, 0x18),
+           RD(0x10, 4, 0xE0), CV(0, 0x7F, 0, 0x18), RD(2, 4, 0x12), CV(0, 0x7F, 0, 0x18),
+           RD(0x11, 4, 1), CV(0, 0x7F, 0, 0x18), RD(9, 0, 0), CV(0, 0x7F, 0, 0x18), RD_OTHER(1),
+           CV(0, 0x7F, 0, 0x18), WR(0x0A, 0, 4), CV(0, 0x7F, 0, 0x18), WR(0x11, 1, 4),
+           CV(0, 0x7F, 0, 0x18), WR(0x12, 0, 4), CV(0, 0x7F, 0, 0x18), WR(0x0F, 0, 4),
+           CV(0, 0x7F, 0, 0x18), WR(0x30, 0, 0));
+    SCRIPT("b, sends and receives next to it", 1, QUIET, OFFSET(0xFF, 0), SB(1, 4),
+           CV(0, 0x80, 0, 0x18), RB(4, 0x80), CV(0, 0x80, 0, 0x18), SB(0x10, 4),
+           CV(0, 0x80, 0, 0x18), RB(4, 0), CV(0, 0x80, 0, 0x18), SB(0x15, 0),
+           CV(0, 0x80, 0, 0x18), SB(9, 4), CV(0, 0x80, 0, 0x18), RB(0, 0),
+           CV(0, 0x80, 0, 0x18), RB_OTHER, CV(0, 0x80, 0, 0x18), ARA(0, 0));
+    SCRIPT("b, alert response next to it", 1, WR(0x11, 1, 4), CV(0, 0x7F, 0, 0x1B),
+           ARA(6, 0x99), ARA(2, 0), CV(0, 0x7F, 0, 0x1A), ARA(2, 0), RD(2, 6, 0x12));
+    SCRIPT("b, power-on next to it", 1, WR(0x11, 1, 4), CV(0, 0x7F, 0, 0x1B), PO, RD(1, 4, 0),
+           CV(0, 0x7F, 0, 0x0B), WR(0x11, 1, 7), CV(0, 0x7F, 0, 0x1B), PO, PO, CO(0, 0x0B));
+    SCRIPT("b, before it, with the same offset", 1, OFFSET(0x7F, 0xE0), RD(0, 4, 0), SB(1, 4),
+           RB(4, 0), ARA(0, 0), RD(0x10, 4, 0), RD(0x12, 4, 0xE0), CV(0, 1, 0, 0x1B));
+}
+
+/* It is no part of the state: a held 1024 leaves the device as 1023 does, a held
+ * -1025 as -1024 does.  A refusal has answer bytes 0. */
+static void held_sum_and_state(void)
+{
+    static const struct {
+        uint8_t offset;
+        second_event held, on_scale;
+    } end[] = {
+        { 1, { 5, 9, 0x7F, 0 }, { 5, 9, 0x7E, 0xE0 } },
+        { 0xFF, { 5, 9, 0x80, 0xE0 }, { 5, 9, 0x81, 0 } }
+    };
+    for (size_t i = 0; i < sizeof end / sizeof *end; i++) {
+        second_device one, two;
+        second_power_on(&one, 1);
+        CHECK(second_step(&one, (second_event){ 1, 0x4C, 0x11, end[i].offset }).first == 4);
+        two = one;
+        second_step_result held = second_step(&one, end[i].held);
+        second_step_result on_scale = second_step(&two, end[i].on_scale);
+        CHECK(held.code == 0 && on_scale.code == 0 && held.second == 0 && on_scale.second == 0);
+        CHECK(held.first == on_scale.first + 0x10);
+        CHECK(memcmp(&one, &two, sizeof one) == 0 && second_device_in_range(&one));
+
+        second_event wrong_low = end[i].held, second_sensor = end[i].held;
+        wrong_low.c |= 1;
+        second_sensor.kind = 8;
+        second_step_result refused_step = second_step(&one, wrong_low);
+        CHECK(refused_step.code == 4 && refused_step.first == 0 && refused_step.second == 0);
+        refused_step = second_step(&one, second_sensor);
+        CHECK(refused_step.code == 3 && refused_step.first == 0 && refused_step.second == 0);
+        one.faults = 4;
+        refused_step = second_step(&one, end[i].held);
+        CHECK(refused_step.code == 8 && refused_step.first == 0 && refused_step.second == 0);
+    }
+}
+
+/* In the reader: whole, and in parts of every size with rooms 0 to 3 and retries. */
+static void held_sum_in_reader(void)
+{
+    static const uint8_t capture[] = { 1, 1, 0, 0, 0, 17,
+        1, 0x4C, 9, 0x94, 1, 0x4C, 0x11, 0x7F, 1, 0x4C, 0x12, 0xE0, 5, 0, 0, 0, 5, 0, 0, 0x20,
+        2, 0x4C, 1, 0, 6, 0, 0, 0, 1, 0x4C, 0x11, 0x80, 1, 0x4C, 0x12, 0, 5, 0, 0xFF, 0xE0,
+        5, 0, 0, 0, 1, 0x4C, 9, 0xD4, 5, 0, 0xFF, 0xE0, 1, 0x4C, 0x0F, 0, 5, 0, 0xFF, 0xE0,
+        7, 0, 0, 0, 5, 0, 0x80, 0 };
+    static const uint8_t answers[] = { 4, 0, 4, 0, 4, 0, 8, 0, 0x18, 0, 4, 0x7F, 8, 0, 4, 0, 4, 0,
+        0x18, 0, 8, 0, 4, 0, 0, 0, 4, 0, 0x18, 0, 0, 0, 9, 0 };
+    uint8_t out[sizeof answers];
+    CHECK(second_run(capture, sizeof capture, out, sizeof out) == 16 * sizeof answers);
+    CHECK(memcmp(out, answers, sizeof out) == 0);
+    for (size_t piece = 1; piece <= sizeof capture; piece++) {
+        second_reader reader;
+        size_t at = 0, written = 0, room = 0;
+        uint8_t code = 0;
+        second_fresh(&reader);
+        memset(out, 0xA5, sizeof out);
+        while (at < sizeof capture && (code == 0 || code == 7)) {
+            size_t length = piece < sizeof capture - at ? piece : sizeof capture - at;
+            size_t left = sizeof out - written;
+            second_feed_result fed = second_feed(&reader, capture + at, length, out + written,
+                                                 room < left ? room : left);
+            at += fed.consumed;
+            written += fed.written;
+            code = fed.code;
+            room = (room + 1) % 4;
+        }
+        CHECK(code == 0 && second_finish(&reader) == 0 && written == sizeof answers);
+        CHECK(memcmp(out, answers, sizeof out) == 0);
+    }
+}
+
+/* In the listing: the first answer byte as it is. */
+static void held_sum_in_listing(void)
+{
+    char line[SECOND_LINE_MOST];
+    CHECK(second_listing_record(line, sizeof line, 3, 0x1B, 0) == 8);
+    CHECK(memcmp(line, "3 1B 00\n", 8) == 0);
+    CHECK(second_listing_record(line, sizeof line, 10, 0x18, 0) == 9);
+    CHECK(memcmp(line, "10 18 00\n", 9) == 0);
+}
+
+/* A number of eighths, -1024 to 1023, as its two bytes. */
+static uint8_t high_of(int number)
+{
+    return (uint8_t)((number + 2048) / 8 % 256);
+}
+
+static uint8_t low_of(int number)
+{
+    return (uint8_t)((number + 2048) % 8 * 32);
+}
+
+static void write_quietly(second_device *device, uint8_t place, uint8_t value)
+{
+    second_step_result step = second_step(device, (second_event){ 1, 0x4C, place, value });
+    CHECK(step.code == 0 && step.first == 4 && step.second == 0);
+}
+
+static second_step_result sample_step(second_device *device, int sample)
+{
+    return second_step(device, (second_event){ 5, 0, high_of(sample), low_of(sample) });
+}
+
+/* Every sample with every offset, in plain int, and an open diode with every offset.
+ * As many samples are held as the offset is away from 0: a quarter of all pairs. */
+static void every_sum(void)
+{
+    second_device device;
+    int held_pairs = 0;
+    second_power_on(&device, 1);
+    write_quietly(&device, 9, 0x94);
+    for (int offset = -1024; offset <= 1023; offset++) {
+        int differ = 0, held = 0;
+        write_quietly(&device, 0x11, high_of(offset));
+        write_quietly(&device, 0x12, low_of(offset));
+        for (int sample = -1024; sample <= 1023; sample++) {
+            int reading = sample + offset, first = 8;
+            if (reading > 1023) {
+                reading = 1023;
+                first = 8 + 16;
+            } else if (reading < -1024) {
+                reading = -1024;
+                first = 8 + 16;
+            }
+            second_step_result step = sample_step(&device, sample);
+            differ += step.code != 0 || step.first != first || step.second != 0;
+            differ += device.remote != reading;
+            held += step.first / 16;
+        }
+        check(differ == 0, "every sample, offset", offset);
+        check(held == (offset < 0 ? -offset : offset), "samples held, offset", offset);
+        held_pairs += held;
+        second_step_result open = second_step(&device, (second_event){ 6, 0, 0, 0 });
+        check(open.code == 0 && open.first == 8 && open.second == 0 && device.remote == 1016,
+              "open diode, offset", offset);
+    }
+    CHECK(held_pairs == 2048 * 2048 / 4);
+}
+
+/* Every sample in rising order with one offset, as one capture: the last ones are held
+ * if the offset is above 0, the first ones if it is below, as many as the offset says. */
+static void samples_in_capture(int offset)
+{
+    enum { SETUP = 3, SAMPLES = 2048 };
+    static uint8_t capture[6 + 4 * (SETUP + SAMPLES)];
+    static uint8_t answers[2 * (SETUP + SAMPLES)];
+    const uint8_t setup[4 * SETUP] = { 1, 0x4C, 9, 0x94, 1, 0x4C, 0x11, high_of(offset),
+                                       1, 0x4C, 0x12, low_of(offset) };
+    int differ = 0;
+    CHECK(second_write_header(1, SETUP + SAMPLES, capture, 6) == 0);
+    memcpy(capture + 6, setup, sizeof setup);
+    for (int i = 0; i < SAMPLES; i++) {
+        uint8_t *record = capture + 6 + 4 * (SETUP + i);
+        record[0] = 5;
+        record[1] = 0;
+        record[2] = high_of(i - 1024);
+        record[3] = low_of(i - 1024);
+    }
+    CHECK(second_run(capture, sizeof capture, answers, sizeof answers) == 16 * sizeof answers);
+    for (int i = 0; i < SAMPLES; i++) {
+        bool held = offset > 0 ? i >= SAMPLES - offset : i < -offset;
+        const uint8_t *answer = answers + 2 * (SETUP + i);
+        differ += answer[0] != (held ? 0x18 : 8) || answer[1] != 0;
+    }
+    check(differ == 0, "samples in a capture, offset", offset);
+}
+
+/* Every sample in standby with one offset: not taken, taken by a one-shot, not taken. */
+static void samples_in_standby(int offset)
+{
+    second_device device;
+    int differ = 0;
+    second_power_on(&device, 1);
+    write_quietly(&device, 0x11, high_of(offset));
+    write_quietly(&device, 0x12, low_of(offset));
+    write_quietly(&device, 9, 0xD4);
+    for (int sample = -1024; sample <= 1023; sample++) {
+        bool held = offset > 0 ? sample > 1023 - offset : sample < -1024 - offset;
+        differ += sample_step(&device, sample).first != 0;
+        write_quietly(&device, 0x0F, 0);
+        differ += sample_step(&device, sample).first != (held ? 0x18 : 8);
+        differ += sample_step(&device, sample).first != 0;
+    }
+    check(differ == 0, "samples in standby, offset", offset);
+}
+
+static void some_offsets(void)
+{
+    static const int offsets[] = { -1024, -1023, -1017, -1016, -1015, -1000, -513, -512, -511, -256,
+        -255, -129, -128, -85, -9, -8, -7, -2, -1, 0, 1, 2, 7, 8, 9, 31, 32, 85, 127, 128, 255,
+        256, 257, 511, 512, 513, 1000, 1015, 1016, 1017, 1022, 1023 };
+    for (size_t i = 0; i < sizeof offsets / sizeof *offsets; i++) {
+        samples_in_capture(offsets[i]);
+        samples_in_standby(offsets[i]);
     }
 }
 
@@ -347,7 +686,8 @@ static void refusals(void)
     second_reader reader;
     second_fresh(&reader);
     CHECK(second_finish(&reader) == 6);
-    second_feed_result fed = second_feed(&reader, (const uint8_t *)"\x01\x01\0\0\0\0\x01", 7, out, 8);
+    second_feed_result fed = second_feed(&reader, (const uint8_t *)"\x01\x01\0\0\0\0\x01", 7,
+                                         out, 8);
     CHECK(fed.code == 5 && fed.consumed == 6 && fed.written == 0 && reader.held == 5);
     fed = second_feed(&reader, NULL, 0, NULL, 0);
     CHECK(fed.code == 5 && fed.consumed == 0 && second_finish(&reader) == 5);
@@ -592,6 +932,40 @@ static void pairs(void)
     }
 }
 
+/* Request b over random events: D4 stands exactly in the answer to a taken conversion
+ * of kind 05 whose sum, with the offset by the writes so far, is off the scale.  D5 to
+ * D7 never stand. */
+static void held_over_events(void)
+{
+    second_device device;
+    int degrees = 0, fine = 0, seen = 0; /* the offset is degrees and fine eighths */
+    second_power_on(&device, 1);
+    for (int round = 0; round < 200000; round++) {
+        second_event event = any_event();
+        if (event.kind == SECOND_POWER_ON && next(8) != 0)
+            continue; /* rarer, so that offsets stand */
+        if (event.kind == SECOND_WRITE && next(2) == 0)
+            event.b = (uint8_t)(0x11 + next(2));
+        second_step_result step = second_step(&device, event);
+        CHECK(step.code == 0 && (step.first & 0xE0) == 0);
+        if (event.kind == SECOND_POWER_ON)
+            degrees = fine = 0;
+        if (event.kind == SECOND_WRITE && event.a == 0x4C && event.b == 0x11)
+            degrees = event.c < 128 ? event.c : event.c - 256;
+        if (event.kind == SECOND_WRITE && event.a == 0x4C && event.b == 0x12)
+            fine = event.c / 32;
+        bool shown = false;
+        if (event.kind == SECOND_CONVERSION && (step.first & 8) != 0) {
+            int sum = 8 * (event.b < 128 ? event.b : event.b - 256) + event.c / 32;
+            sum += 8 * degrees + fine;
+            shown = sum > 1023 || sum < -1024;
+        }
+        CHECK(((step.first & 0x10) != 0) == shown);
+        seen += shown;
+    }
+    CHECK(seen > 1000);
+}
+
 /* Any bytes as a state, any bytes as input: an answer, and 8 changes nothing. */
 static void anything(void)
 {
@@ -640,12 +1014,23 @@ int main(void)
     scripts();
     low_byte_scripts();
     kept_after_records();
+    held_sum_ends();
+    held_sum_parts();
+    held_sum_beside_pins();
+    held_sum_not_shown();
+    held_sum_of_one_record();
+    held_sum_and_state();
+    held_sum_in_reader();
+    held_sum_in_listing();
+    every_sum();
+    some_offsets();
     records();
     refusals();
     low_byte_ranges();
     low_byte_in_reader();
     cuts();
     pairs();
+    held_over_events();
     anything();
     puts(wrong == 0 ? "all right" : "WRONG");
     return wrong != 0;
