@@ -6,14 +6,12 @@ use mathlib.Core.Path.{_≡_, refl, ap, _∙_}
 use mathlib.Core.Bool.{Bool, true, false, cond, _&&_}
 use mathlib.Core.List.{List, [], _∷_, map}
 use Prim.Native.Nat.{ℕ, _%_, _^_, _<_}
-use lib.IntN.{ℤ, pos, negℤ}
-use lib.Signed.{ltZ}
+use lib.IntN.{ℤ}
 use lib.Dec.{eqb, lit<}
 use lib.Bits.{bitOr, or-lt}
-use Rattle.laws.proofs.Choices.{by-test}
 use Rattle.laws.proofs.Tables.{agree}
 use Rattle.temperature.specs.declared.Reading.{Reading}
-use Rattle.temperature.specs.Temperature.{heldOf}
+use Rattle.temperature.proofs.Held.{held-eighths}
 use Rattle.registers.specs.Page.{readableOf, writableOf, knownOf, addressOf}
 use Rattle.conversion.specs.Conversion.{bitOf, readingOf}
 use Rattle.conversion.proofs.Bounds.{bit-bound}
@@ -42,14 +40,9 @@ forget-cond : (t : Bool) (x y : Outcome) → forget (cond t x y) ≡ cond t (for
 forget-cond true x y = refl
 forget-cond false x y = refl
 
-held-before : (sum : ℤ) → heldOf sum .eighths ≡ before.heldOf sum
-unfolding heldOf before.heldOf
-held-before sum =
-    by-test (ltZ (pos 1023) sum) (λ over. rw over) (λ on. by-test (ltZ sum (negℤ (pos 1024))) (λ under. rw (on, under)) (λ off. rw (on, off)))
-
 reading-before : (s : List ℕ) (high low : ℕ) → readingOf s high low .eighths ≡ before.readingOf s high low
-unfolding readingOf before.readingOf
-reading-before s high low = held-before _
+unfolding readingOf before.readingOf before.heldOf
+reading-before s high low = held-eighths _
 
 module _ (d : Device) where
   at-before : (a : ℕ) (own : Outcome) → forget (atOf d a own) ≡ before.atOf d a (forget own)
@@ -128,8 +121,9 @@ first-cleared d e =
 
 stepped-before : (d : Device) (e : Event) → stepWithout (steppedOf (effectOf d e)) ≡ before.steppedOf (before.effectOf d e)
 stepped-before d e =
+    let first = before.answerOf (before.effectOf d e) in
     ap (λ (x : ℕ). record { code = 0; first = x; second = effectOf d e .byte; device = effectOf d e .device }) (first-cleared d e)
-    ∙ ap (λ (o : before.Outcome). record { code = 0; first = before.answerOf (before.effectOf d e); second = o .byte; device = o .device }) (effect-as-before d e)
+    ∙ ap (λ (o : before.Outcome). record { code = 0; first = first; second = o .byte; device = o .device }) (effect-as-before d e)
 
 pub step-as-before : (d : Device) (e : Event) → stepWithout (stepOf d e) ≡ before.stepOf d e
 unfolding stepOf before.stepOf

@@ -10,6 +10,7 @@ use lib.ListN.{length}
 use Rattle.laws.proofs.Choices.{by-test, clash}
 use Rattle.temperature.specs.declared.Reading.{Reading}
 use Rattle.temperature.specs.Temperature.{sumOf, openReading}
+use Rattle.temperature.proofs.Held.{held-eighths}
 use Rattle.conversion.specs.Conversion.{readingOf, sensedOf}
 use Rattle.device_laws.specs.AfterConversion.{SameLimits}
 use Rattle.device_laws.proofs.AfterConversion.{after-conversion, same-live}
@@ -22,7 +23,7 @@ use Rattle.device.specs.Profile.{IsConversion}
 use Rattle.device.specs.Step.{effectOf}
 use Rattle.device_laws.specs.Moves.{sumAt, heldBy}
 use Rattle.device_laws.specs.Conversions.{localIn, openIn, readingIn, Converted, afterAll, Fault, Faults}
-use Rattle.device_laws.proofs.Moves.{held-to, held-exactly}
+use Rattle.device_laws.proofs.Moves.{held-exactly}
 
 -- the reading of a conversion, and whether it was held; of any other event it is not asked
 abbrev remoteIn : Device → Event → Reading
@@ -40,7 +41,7 @@ reading-in d (Write a w v) c = absurd c
 reading-in d (Read a r) c = absurd c
 reading-in d (Send a r) c = absurd c
 reading-in d (Receive a) c = absurd c
-reading-in d (Convert local high low) c = held-to (sumAt d high low)
+reading-in d (Convert local high low) c = held-eighths (sumAt d high low)
 reading-in d (Open local) c = refl
 reading-in d PowerOn c = absurd c
 

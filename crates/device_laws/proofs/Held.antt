@@ -10,7 +10,7 @@ use lib.Signed.{ltZ}
 use lib.Dec.{eqb, lit<}
 use Rattle.laws.proofs.Choices.{or-left, or-right}
 use Rattle.temperature.specs.Temperature.{heldOf}
-use Rattle.temperature.proofs.Held.{held-tells, held-not, held-high, held-low, held-other}
+use Rattle.temperature.proofs.Held.{held-tells, held-eighths, held-not, held-high, held-low, held-other}
 use Rattle.registers.specs.Bits.{has}
 use Rattle.device.specs.declared.Device.{Device}
 use Rattle.device.specs.declared.Event.{Event}
@@ -21,7 +21,7 @@ use Rattle.device.specs.Step.{effectOf, refusedOf, steppedOf, stepOf}
 use Rattle.device_laws.specs.Moves.{takenOf, sumAt, offScale, heldBy}
 use Rattle.device_laws.specs.Held.{showsHeld, Told}
 use Rattle.device_laws.proofs.Alerts.{answer-bits}
-use Rattle.device_laws.proofs.Moves.{held-to, held-exactly, remote-moves}
+use Rattle.device_laws.proofs.Moves.{held-exactly, remote-moves}
 
 -- ---- D4, exactly
 
@@ -88,7 +88,7 @@ module _ (d : Device) (local high low : ℕ) (taken : takenOf d ≡ true) where
       shown-exactly d (Convert local high low) ∙ ap (λ (t : Bool). t && offScale (sumAt d high low)) taken ∙ sym (held-tells (sumAt d high low))
 
   reads : effectOf d (Convert local high low) .device .sensed .remote ≡ heldOf (sumAt d high low) .eighths
-  reads = remote-moves d (Convert local high low) ∙ rw taken (sym (held-to (sumAt d high low)))
+  reads = remote-moves d (Convert local high low) ∙ rw taken (sym (held-eighths (sumAt d high low)))
 
   pub told : Told (sumAt d high low) (effectOf d (Convert local high low))
   told =

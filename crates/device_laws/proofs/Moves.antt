@@ -6,15 +6,15 @@ use mathlib.Core.Path.{_≡_, refl, sym, ap, _∙_}
 use mathlib.Core.Bool.{Bool, true, false, not, cond, _||_, _&&_, and-true, and-false, or-false}
 use mathlib.Core.List.{List, [], _∷_}
 use Prim.Native.Nat.{ℕ, _+_, _*_, min}
-use lib.IntN.{ℤ, pos, negℤ, _*ℤ_, +ℤ-idr}
+use lib.IntN.{ℤ, pos, _*ℤ_, +ℤ-idr}
 use lib.Signed.{ltZ}
 use lib.Dec.{eqb}
 use lib.Bits.{bitAnd, bitOr}
 use borrow.Author.Tests.{eqb-true, ne-eqb}
 use Rattle.laws.proofs.Choices.{cond-ind, by-test, clash}
 use Rattle.temperature.specs.declared.Reading.{Reading}
-use Rattle.temperature.specs.Temperature.{degreesOf, eighthsOf, sumOf, heldOf, openReading}
-use Rattle.temperature.proofs.Held.{held-tells}
+use Rattle.temperature.specs.Temperature.{degreesOf, eighthsOf, sumOf, openReading}
+use Rattle.temperature.proofs.Held.{held-tells, held-eighths}
 use Rattle.registers.specs.Page.{R, W, among, readableOf, writableOf, knownOf, addressOf, readAtOf, keptOf, settingOf, changedOf, readPositionOf, readOnlyOf}
 use Rattle.registers.proofs.Entries.{zero-at}
 use Rattle.conversion.specs.declared.Sensed.{Sensed}
@@ -28,7 +28,7 @@ use Rattle.device.specs.Bus.{silentOf, answeredOf, standbyOf, maskedOf, storedO
 use Rattle.device.specs.Bus.{afterReadOf, valueOf, getOf, pointOf, respondsOf, respondOf, takesOf, convertedOf, takingOf, senseOf}
 use Rattle.device.specs.Bus.{poweredOf, alertResponse, atOf}
 use Rattle.device_laws.specs.Moves.{byteAt, ownOf, anySet, inStandby, takenOf, namedOf, pointerAfter, pendingAfter, localAfter, remoteAfter, countAfter}
-use Rattle.device_laws.specs.Moves.{restsAt, sumAt, heldTo, sampleOf, faultsAfter, statusAfter, keptLow, lowAfterRead, lowAfter, answersAlert}
+use Rattle.device_laws.specs.Moves.{restsAt, sumAt, sampleOf, faultsAfter, statusAfter, keptLow, lowAfterRead, lowAfter, answersAlert}
 use Rattle.device_laws.specs.Moves.{acknowledgedOf, takenBy, heldBy}
 use Rattle.device.specs.Ranges.{rangedOf}
 use Rattle.device.specs.Profile.{OnBus}
@@ -361,12 +361,6 @@ powered-remote : (v : ℕ) → eighthsOf (readOnlyOf v 0x01) (readOnlyOf v 0x10)
 unfolding eighthsOf degreesOf
 powered-remote v = rw (zero-at v 0x01 refl, zero-at v 0x10 refl)
 
--- the reading that a sum is held to
-pub held-to : (sum : ℤ) → heldOf sum .eighths ≡ heldTo sum
-unfolding heldOf
-held-to sum =
-    by-test (ltZ (pos 1023) sum) (λ over. rw over) (λ on. by-test (ltZ sum (negℤ (pos 1024))) (λ under. rw (on, under)) (λ off. rw (on, off)))
-
 pub remote-moves : (d : Device) (e : Event) → effectOf d e .device .sensed .remote ≡ remoteAfter d e
 unfolding effectOf poweredOf convertedOf sensedOf readingOf sumOf
 remote-moves d (Write a w v) = ap (λ (s : Sensed). s .remote) (still d (Write a w v) tt)
@@ -374,7 +368,7 @@ remote-moves d (Read a r) = ap (λ (s : Sensed). s .remote) (still d (Read a r) 
 remote-moves d (Send a r) = ap (λ (s : Sensed). s .remote) (still d (Send a r) tt)
 remote-moves d (Receive a) = ap (λ (s : Sensed). s .remote) (still d (Receive a) tt)
 remote-moves d (Convert local high low) =
-    sense-moves (λ (e : Device). e .sensed .remote) d local _ false (sampleOf d high low) (held-to (sumAt d high low))
+    sense-moves (λ (e : Device). e .sensed .remote) d local _ false (sampleOf d high low) (held-eighths (sumAt d high low))
 remote-moves d (Open local) = sense-moves (λ (e : Device). e .sensed .remote) d local _ true (pos 1016) refl
 remote-moves d PowerOn = powered-remote (d .variant)
 
@@ -413,7 +407,7 @@ faults-moves d (Read a r) = ap (λ (s : Sensed). s .faults) (still d (Read a r) 
 faults-moves d (Send a r) = ap (λ (s : Sensed). s .faults) (still d (Send a r) tt)
 faults-moves d (Receive a) = ap (λ (s : Sensed). s .faults) (still d (Receive a) tt)
 faults-moves d (Convert local high low) =
-    let count = converted-faults d local _ false ∙ ap (countAfter d) (held-to (sumAt d high low)) in
+    let count = converted-faults d local _ false ∙ ap (countAfter d) (held-eighths (sumAt d high low)) in
     sense-moves (λ (e : Device). e .sensed .faults) d local _ false (countAfter d (sampleOf d high low)) count
 faults-moves d (Open local) =
     sense-moves (λ (e : Device). e .sensed .faults) d local openReading true (countAfter d (pos 1016)) (converted-faults d local (pos 1016) true)

@@ -1,8 +1,9 @@
--- Request b, of every sum: `held-tells`, a reading was held exactly if its sum is above 1023 or below -1024; `held-not`, a reading that was not
--- held is its sum; `held-high` and `held-low`, one that was is the end of the scale that its sum lies beyond; `held-other`, and so it is not its sum.
+-- Request b, of every sum: `held-tells`, a reading was held exactly if its sum is above 1023 or below -1024; `held-eighths`, the reading itself;
+-- `held-not`, one that was not held is its sum; `held-high` and `held-low`, one that was is the end of the scale that its sum lies beyond; `held-other`,
+-- and so it is not its sum.
 -- Assumes nothing.
 use mathlib.Core.Path.{_≡_, refl, sym, _∙_}
-use mathlib.Core.Bool.{true, false, _||_}
+use mathlib.Core.Bool.{true, false, cond, _||_}
 use lib.IntN.{ℤ, pos, negsuc, negℤ}
 use lib.Signed.{ltZ}
 use Rattle.laws.proofs.Choices.{by-test, clash}
@@ -11,6 +12,12 @@ use Rattle.temperature.specs.Temperature.{heldOf}
 pub held-tells : (sum : ℤ) → heldOf sum .held ≡ (ltZ (pos 1023) sum || ltZ sum (negℤ (pos 1024)))
 unfolding heldOf
 held-tells sum =
+    by-test (ltZ (pos 1023) sum) (λ over. rw over) (λ on. by-test (ltZ sum (negℤ (pos 1024))) (λ under. rw (on, under)) (λ off. rw (on, off)))
+
+-- P2: the sum held to -1024..1023
+pub held-eighths : (sum : ℤ) → heldOf sum .eighths ≡ cond (ltZ (pos 1023) sum) (pos 1023) (cond (ltZ sum (negℤ (pos 1024))) (negℤ (pos 1024)) sum)
+unfolding heldOf
+held-eighths sum =
     by-test (ltZ (pos 1023) sum) (λ over. rw over) (λ on. by-test (ltZ sum (negℤ (pos 1024))) (λ under. rw (on, under)) (λ off. rw (on, off)))
 
 pub held-not : (sum : ℤ) → heldOf sum .held ≡ false → heldOf sum .eighths ≡ sum

@@ -1,6 +1,7 @@
 // Temperatures (P1 to P3, request b): two's complement bytes, signed eighths of a degree, and their comparisons.
 ghost use mathlib.Core.Path.{_≡_};
-ghost use Rattle.temperature.specs.Temperature.{degreesOf, eighthsOf, heldOf, heldSumOf, openReading, aboveOf, belowOf, clearedOf, wordOf, highByteOf, lowByteOf};
+ghost use Rattle.temperature.specs.Temperature.{degreesOf, eighthsOf, heldOf, heldSumOf, openReading, aboveOf, belowOf, clearedOf};
+ghost use Rattle.temperature.specs.Temperature.{wordOf, highByteOf, lowByteOf};
 
 // The ends of the scale, in eighths.
 pub const LOWEST: i16 = -1024;
