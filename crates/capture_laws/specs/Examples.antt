@@ -110,6 +110,21 @@ captures =
     (record { code = 4; consumed = 9; answers = []; finishing = 4; head = 6; count = 2; done = 0; carried = 3; bytes = 2 ∷ 128 ∷ 0 ∷ []; held = 4 }) ∷
     given (0x01 ∷ 0x01 ∷ 0x00 ∷ 0x00 ∷ 0x00 ∷ 0x02 ∷ 0x05 ∷ 0x14 ∷ 0x00 ∷ 0x00 ∷ 0x02 ∷ 0x4C ∷ 0x00 ∷ 0x01 ∷ [])
     (record { code = 4; consumed = 13; answers = 0x08 ∷ 0x00 ∷ []; finishing = 4; head = 6; count = 2; done = 1; carried = 3; bytes = 2 ∷ 76 ∷ 0 ∷ []; held = 4 }) ∷
+    -- request b: offset 127; 7 + 1016 eighths are exactly the end of the scale, 8 + 1016 are held
+    given
+    (0x01 ∷ 0x01 ∷ 0x00 ∷ 0x00 ∷ 0x00 ∷ 0x03 ∷ 0x01 ∷ 0x4C ∷ 0x11 ∷ 0x7F ∷ 0x05 ∷ 0x14 ∷ 0x00 ∷ 0xE0 ∷ 0x05 ∷ 0x14 ∷ 0x01 ∷ 0x00 ∷ [])
+    (record {
+      code = 0;
+      consumed = 18;
+      answers = 0x04 ∷ 0x00 ∷ 0x0B ∷ 0x00 ∷ 0x1B ∷ 0x00 ∷ [];
+      finishing = 0;
+      head = 6;
+      count = 3;
+      done = 3;
+      carried = 0;
+      bytes = 0 ∷ 0 ∷ 0 ∷ [];
+      held = 0;
+    }) ∷
     []
 
 abbrev ofWhole : Whole → Summary
