@@ -1,4 +1,4 @@
--- A taken conversion, by rulings P2 to P5 and P8: what it makes of the readings, the settings in force, the fault count and the
+-- A taken conversion, by rulings P2 to P5 and P8 and by request b: what it makes of the readings, the settings in force, the fault count and the
 -- latches. Settings are named by the numbers at which their registers are read.
 -- Assumes nothing.
 use Prim.Native.Nat.{ℕ, _+_, min}

@@ -1,4 +1,4 @@
-// A taken conversion (P2 to P5, P8): what the device senses, and what follows from it.
+// A taken conversion (P2 to P5, P8, request b): what the device senses, and what follows from it.
 ghost use mathlib.Core.Path.{_≡_};
 ghost use Rattle.conversion.specs.Conversion.{readingOf, localLimitsOf, remoteLimitsOf, outOf, anyOf, countOf, queuedOf, shownOf, bitOf, liveOf, latchOf, sensedOf};
 use registers::bits;
@@ -29,7 +29,7 @@ pub struct Out {
     pub crit: bool,
 }
 
-// P2: the remote reading of a sample.
+// P2, request b: the remote reading of a sample, and whether it was held.
 pub fn reading(s: [u8; 14], high: u8, low: u8) -> Reading
     ensures { λ r. ⌜ r ≡ readingOf s high low ⌝ }
 {

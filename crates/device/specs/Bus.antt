@@ -1,5 +1,5 @@
--- The bus, conversions and power-on, by rulings P5, P6 and P9 to P11 and by request a, which stands in the place of P12's sentence on
--- register 10: what a device does at a write, a read, a send, an alert response, a conversion and power-on. Settings are named by the numbers at
+-- The bus, conversions and power-on, by rulings P5, P6 and P9 to P11, by request a, which stands in the place of P12's sentence on register 10, and
+-- by request b: what a device does at a write, a read, a send, an alert response, a conversion and power-on. Settings are named by the numbers at
 -- which their registers are read.
 -- Assumes nothing.
 use Prim.Native.Nat.{ℕ, _+_, _*_}

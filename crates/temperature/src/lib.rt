@@ -52,14 +52,14 @@ fn hold(sum: i16) -> Reading
     }
 }
 
-// P2: a sample plus an offset, whose low byte is `part`, held to the scale.
+// P2, request b: a sample plus an offset, whose low byte is `part`, held to the scale, and whether it was.
 pub fn held_sum(high: u8, low: u8, offset: u8, part: u8) -> Reading
     ensures { λ r. ⌜ r ≡ heldSumOf high low offset part ⌝ }
 {
     hold(eighths(high, low) + eighths(offset, part))
 }
 
-// P2: an open diode gives 127 degrees with no offset, and is never held.
+// P2: an open diode gives 127 degrees with no offset; request b: it is never held.
 pub fn open_reading() -> Reading
     ensures { λ r. ⌜ r ≡ openReading ⌝ }
 {
