@@ -166,10 +166,12 @@ enum {
 };
 
 /*
- * Bits of the first answer byte; the other three are 0. The pins are as they stand after the record. LM89_ANSWER_HELD is told at the record
- * itself, by a taken conversion of LM89_KIND_CONVERSION alone: its sample plus the offset in force is above 1023 eighths of a degree or below
- * -1024, and the remote reading stands at that end of the scale, 127.875 or -128 degrees. A sum of exactly 1023 or -1024 is not held, and an
- * open diode never is. A device keeps the reading and nothing of whether it was held.
+ * Bits of the first answer byte; the other three are 0. The pins are as they stand after the record.
+ *
+ * LM89_ANSWER_HELD is set exactly if the record is a taken LM89_KIND_CONVERSION whose remote sample plus the offset in force, LM89_REGISTER_OFFSET
+ * with its low byte, is above 1023 eighths of a degree or below -1024. The remote reading is then that end of the scale, 127.875 or -128 degrees, and
+ * no temperature; without it the reading is the sum. A sum of exactly 1023 or -1024 is not held, and LM89_KIND_OPEN never sets the bit. No later
+ * record tells it, and no field of a device or reader; `held` of lm89_reader is a code.
  */
 enum {
     LM89_ANSWER_ALERT = 0x01,        /* ALERT is pulled */

@@ -33,7 +33,7 @@ pub enum Event {
     PowerOn,
 }
 
-// What an event asks of the device at hand. Sense: local byte, remote reading in eighths, whether it was held, whether the diode is broken open.
+// What an event asks of the device at hand. Sense: local byte, remote reading in eighths and whether it was held (a struct in the enum is slower), diode open.
 pub enum Asked {
     Put(u8, u8),
     Get(u8),

@@ -1,11 +1,11 @@
 -- Request b against the definitions before it: `device-as-before`, the device after every event is the one before; `effect-as-before`, so are
--- acknowledged, taken and the byte read; `first-as-before`, D4 apart the first answer byte too; `run-as-before`, over every row of events the
--- codes, the answer bytes with D4 cleared and the end device are those before.
+-- acknowledged, taken and the byte read; `first-as-before`, D4 apart the first answer byte too; `step-as-before`, `run-as-before`: of every step, and
+-- over every row of events, refused ones too, the codes, the answer bytes with D4 cleared and the end device are those before.
 -- Assumes nothing.
 use mathlib.Core.Path.{_≡_, refl, ap, _∙_}
 use mathlib.Core.Bool.{Bool, true, false, cond, _&&_}
 use mathlib.Core.List.{List, [], _∷_, map}
-use Prim.Native.Nat.{ℕ, _%_, _^_, _<_}
+use Prim.Native.Nat.{ℕ, _^_, _<_}
 use lib.IntN.{ℤ}
 use lib.Dec.{eqb, lit<}
 use lib.Bits.{bitOr, or-lt}
@@ -26,7 +26,7 @@ use Rattle.device.specs.Ranges.{variantOf, rangedOf, operandsOf}
 use Rattle.device.specs.Step.{effectOf, answerOf, refusedOf, steppedOf, stepOf}
 use Rattle.device.specs.Run.{Reply, repliesOf, afterOf}
 use Rattle.device_laws.specs.Moves.{heldBy}
-use Rattle.device_laws.specs.Held.{stepWithout, replyWithout}
+use Rattle.device_laws.specs.Held.{cleared, stepWithout, replyWithout}
 use Rattle.device_laws.specs.BeforeHeld as before
 use Rattle.device_laws.proofs.Moves.{held-exactly}
 
@@ -111,13 +111,13 @@ small-before o =
     (bit-bound (o .taken) 0x08 (lit< tt))
 
 -- D4 joined to four bits and cleared again
-cleared : (t : Bool) (x : ℕ) → x < 0x10 → bitOr x (bitOf t 0x10) % 0x10 ≡ x
-cleared true = agree (λ x. bitOr x 0x10 % 0x10) (λ x. x) 0x10 refl
-cleared false = agree (λ x. bitOr x 0 % 0x10) (λ x. x) 0x10 refl
+joined-cleared : (t : Bool) (x : ℕ) → x < 0x10 → cleared (bitOr x (bitOf t 0x10)) ≡ x
+joined-cleared true = agree (λ x. cleared (bitOr x 0x10)) (λ x. x) 0x10 refl
+joined-cleared false = agree (λ x. cleared (bitOr x 0)) (λ x. x) 0x10 refl
 
-first-cleared : (d : Device) (e : Event) → answerOf (effectOf d e) % 0x10 ≡ before.answerOf (before.effectOf d e)
+first-cleared : (d : Device) (e : Event) → cleared (answerOf (effectOf d e)) ≡ before.answerOf (before.effectOf d e)
 first-cleared d e =
-    ap (λ (x : ℕ). x % 0x10) (first-as-before d e) ∙ cleared (heldBy d e) (before.answerOf (before.effectOf d e)) (small-before (before.effectOf d e))
+    ap cleared (first-as-before d e) ∙ joined-cleared (heldBy d e) (before.answerOf (before.effectOf d e)) (small-before (before.effectOf d e))
 
 stepped-before : (d : Device) (e : Event) → stepWithout (steppedOf (effectOf d e)) ≡ before.steppedOf (before.effectOf d e)
 stepped-before d e =

@@ -1,25 +1,23 @@
 -- Request b. `shown-exactly`: D4 of the first answer byte, for every device and event. `step-shows` and `step-rest`: of every step, refused ones too,
--- and D5 to D7 are 0. `highest-not` and `lowest-not`: a sum of exactly 1023 or -1024 is not held. `open-never`, `bus-never`, `power-on-never`: no
--- other event shows it. `told`: what it tells of the reading.
+-- and D5 to D7 are 0. `highest-not` and `lowest-not`: a sum of exactly 1023 or -1024 is not held. `untaken-not`: nor is a conversion that is not
+-- taken. `others-never`, `open-never`: no other event shows it, an open diode neither. `told`: what it tells of the reading.
 -- Assumes nothing.
 use mathlib.Core.Path.{_≡_, refl, sym, ap, _∙_}
 use mathlib.Core.Bool.{Bool, true, false, _&&_, and-false, cond}
 use Prim.Native.Nat.{ℕ, _<_}
 use lib.IntN.{ℤ, pos, negℤ}
-use lib.Signed.{ltZ}
 use lib.Dec.{eqb, lit<}
-use Rattle.laws.proofs.Choices.{or-left, or-right}
+use Rattle.laws.proofs.Choices.{clash}
 use Rattle.temperature.specs.Temperature.{heldOf}
 use Rattle.temperature.proofs.Held.{held-tells, held-eighths, held-not, held-high, held-low, held-other}
 use Rattle.registers.specs.Bits.{has}
 use Rattle.device.specs.declared.Device.{Device}
 use Rattle.device.specs.declared.Event.{Event}
 use Rattle.device.specs.declared.Event.the-variants.{Write, Read, Send, Receive, Convert, Open, PowerOn}
-use Rattle.device.specs.Profile.{OnBus}
 use Rattle.device.specs.Ranges.{variantOf, rangedOf, operandsOf}
 use Rattle.device.specs.Step.{effectOf, refusedOf, steppedOf, stepOf}
 use Rattle.device_laws.specs.Moves.{takenOf, sumAt, offScale, heldBy}
-use Rattle.device_laws.specs.Held.{showsHeld, Told}
+use Rattle.device_laws.specs.Held.{showsHeld, connected, Told}
 use Rattle.device_laws.proofs.Alerts.{answer-bits}
 use Rattle.device_laws.proofs.Moves.{held-exactly, remote-moves}
 
@@ -64,28 +62,23 @@ module _ (d : Device) (local high low : ℕ) where
   pub untaken-not : takenOf d ≡ false → showsHeld (effectOf d (Convert local high low)) ≡ false
   untaken-not h = shown-exactly d (Convert local high low) ∙ ap (λ (t : Bool). t && offScale (sumAt d high low)) h
 
+pub others-never : (d : Device) (e : Event) → connected e ≡ false → showsHeld (effectOf d e) ≡ false
+others-never d (Write a w v) h = shown-exactly d (Write a w v)
+others-never d (Read a r) h = shown-exactly d (Read a r)
+others-never d (Send a r) h = shown-exactly d (Send a r)
+others-never d (Receive a) h = shown-exactly d (Receive a)
+others-never d (Convert local high low) h = clash (sym h)
+others-never d (Open local) h = shown-exactly d (Open local)
+others-never d PowerOn h = shown-exactly d PowerOn
+
 pub open-never : (d : Device) (local : ℕ) → showsHeld (effectOf d (Open local)) ≡ false
-open-never d local = shown-exactly d (Open local)
-
-pub bus-never : (d : Device) (e : Event) → OnBus e → showsHeld (effectOf d e) ≡ false
-bus-never d (Write a w v) h = shown-exactly d (Write a w v)
-bus-never d (Read a r) h = shown-exactly d (Read a r)
-bus-never d (Send a r) h = shown-exactly d (Send a r)
-bus-never d (Receive a) h = shown-exactly d (Receive a)
-bus-never d (Convert local high low) h = absurd h
-bus-never d (Open local) h = absurd h
-bus-never d PowerOn h = absurd h
-
-pub power-on-never : (d : Device) → showsHeld (effectOf d PowerOn) ≡ false
-power-on-never d = shown-exactly d PowerOn
+open-never d local = others-never d (Open local) refl
 
 -- ---- what it tells of the reading
 
 module _ (d : Device) (local high low : ℕ) (taken : takenOf d ≡ true) where
-  -- D4 and the reading are those of the held sum
-  shows : showsHeld (effectOf d (Convert local high low)) ≡ heldOf (sumAt d high low) .held
-  shows =
-      shown-exactly d (Convert local high low) ∙ ap (λ (t : Bool). t && offScale (sumAt d high low)) taken ∙ sym (held-tells (sumAt d high low))
+  shows : showsHeld (effectOf d (Convert local high low)) ≡ offScale (sumAt d high low)
+  shows = shown-exactly d (Convert local high low) ∙ ap (λ (t : Bool). t && offScale (sumAt d high low)) taken
 
   reads : effectOf d (Convert local high low) .device .sensed .remote ≡ heldOf (sumAt d high low) .eighths
   reads = remote-moves d (Convert local high low) ∙ rw taken (sym (held-eighths (sumAt d high low)))
@@ -94,8 +87,9 @@ module _ (d : Device) (local high low : ℕ) (taken : takenOf d ≡ true) where
   told =
       let sum = sumAt d high low in
       record {
-        true-reading = λ h. reads ∙ held-not sum (sym shows ∙ h);
-        other-reading = λ h same. held-other sum (sym shows ∙ h) (sym reads ∙ same);
-        above = λ h. (shows ∙ held-tells sum ∙ or-left (ltZ (pos 1023) sum) (ltZ sum (negℤ (pos 1024))) h, reads ∙ held-high sum h);
-        below = λ h. (shows ∙ held-tells sum ∙ or-right (ltZ (pos 1023) sum) (ltZ sum (negℤ (pos 1024))) h, reads ∙ held-low sum h);
+        shown = shows;
+        within = λ h. reads ∙ held-not sum (held-tells sum ∙ sym shows ∙ h);
+        beyond = λ h same. held-other sum (held-tells sum ∙ sym shows ∙ h) (sym reads ∙ same);
+        above = λ h. reads ∙ held-high sum h;
+        below = λ h. reads ∙ held-low sum h;
       }

@@ -3,30 +3,48 @@
 -- Assumes nothing.
 use mathlib.Core.Path.{_≡_}
 use mathlib.Core.Bool.{Bool, true, false}
-use Prim.Native.Nat.{_%_}
+use Prim.Native.Nat.{ℕ}
 use lib.IntN.{ℤ, pos, negℤ}
 use lib.Signed.{ltZ}
+use lib.Bits.{bitAnd}
 use Rattle.registers.specs.Bits.{has}
 use Rattle.device.specs.declared.Outcome.{Outcome}
 use Rattle.device.specs.declared.Stepped.{Stepped}
+use Rattle.device.specs.declared.Event.{Event}
+use Rattle.device.specs.declared.Event.the-variants.{Write, Read, Send, Receive, Convert, Open, PowerOn}
 use Rattle.device.specs.Step.{answerOf}
 use Rattle.device.specs.Run.{Reply}
+use Rattle.device_laws.specs.Moves.{offScale}
 
 -- D4 of the first answer byte
 abbrev pub showsHeld : Outcome → Bool
 showsHeld o = has (answerOf o) 0x10
 
--- a taken conversion of kind 05 with this sum of sample and offset: D4 is 0 exactly where the reading is the sum, and where it is 1 the reading
--- is the end of the scale that the sum lies beyond
-pub record Told (sum : ℤ) (o : Outcome) : Type 0 where
-  pub true-reading : showsHeld o ≡ false → o .device .sensed .remote ≡ sum
-  pub other-reading : showsHeld o ≡ true → o .device .sensed .remote ≡ sum → ⊥
-  pub above : ltZ (pos 1023) sum ≡ true → (showsHeld o ≡ true) × (o .device .sensed .remote ≡ pos 1023)
-  pub below : ltZ sum (negℤ (pos 1024)) ≡ true → (showsHeld o ≡ true) × (o .device .sensed .remote ≡ negℤ (pos 1024))
+-- a conversion with the diode connected: kind 05
+abbrev pub connected : Event → Bool
+connected (Write a w v) = false
+connected (Read a r) = false
+connected (Send a r) = false
+connected (Receive a) = false
+connected (Convert local high low) = true
+connected (Open local) = false
+connected PowerOn = false
 
--- a step, and a reply, with D4 of the first answer byte cleared: D5 to D7 are 0 anyway
+-- a taken conversion of kind 05 with this sum of sample and offset: D4 is 1 exactly if the sum is above 1023 or below -1024; where it is 0 the
+-- reading is the sum, and where it is 1 it is not, but the end of the scale that the sum lies beyond
+pub record Told (sum : ℤ) (o : Outcome) : Type 0 where
+  pub shown : showsHeld o ≡ offScale sum
+  pub within : showsHeld o ≡ false → o .device .sensed .remote ≡ sum
+  pub beyond : showsHeld o ≡ true → o .device .sensed .remote ≡ sum → ⊥
+  pub above : ltZ (pos 1023) sum ≡ true → o .device .sensed .remote ≡ pos 1023
+  pub below : ltZ sum (negℤ (pos 1024)) ≡ true → o .device .sensed .remote ≡ negℤ (pos 1024)
+
+-- a first answer byte, a step and a reply with D4 cleared
+abbrev pub cleared : ℕ → ℕ
+cleared first = bitAnd first 0xEF
+
 abbrev pub stepWithout : Stepped → Stepped
-stepWithout s = record { code = s .code; first = s .first % 0x10; second = s .second; device = s .device }
+stepWithout s = record { code = s .code; first = cleared (s .first); second = s .second; device = s .device }
 
 abbrev pub replyWithout : Reply → Reply
-replyWithout r = record { code = r .code; first = r .first % 0x10; second = r .second }
+replyWithout r = record { code = r .code; first = cleared (r .first); second = r .second }
