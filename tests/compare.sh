@@ -79,5 +79,5 @@ python3 tests/compare/compare.py "$here/second" "$other" "${streams[@]}" ||
 python3 tests/compare/listings.py "$here/second-listing" 'build/bin/lm89 list' "$here/listed.stream" ||
     stop "the two listings disagree, see above: documents 01 and 02 say which is wrong"
 python3 tests/compare/covered.py "${streams[@]}" ||
-    stop "something never occurred, see above: add it to tests/compare/streams.c"
+    stop "see above: add what never occurred to tests/compare/streams.c; documents 01 and 02 say what a wrong answer must be"
 measure_lines

@@ -102,6 +102,11 @@ def run_capture(call):
     return call[9:]
 
 
+def answered(records, answers):
+    """(record, first answer byte) of each record that was answered."""
+    return [(records[RECORD_BYTES * n : RECORD_BYTES * (n + 1)], first) for n, first in enumerate(answers[::2])]
+
+
 def hexed(some_bytes, most=64):
     """Hex text, cut after so many bytes."""
     text = some_bytes[:most].hex(" ").upper()

@@ -1,8 +1,9 @@
 #!/usr/bin/env python3
 """covered.py STREAM...: counts what streams of calls and their results (STREAM.results) covered, and prints a table.
 
-Fails, naming it, if anything of the table never occurred, or below 200,000 calls or 1,000,000 records. A record is one that was
-answered: by a step, a feed or a run. What happened is decided from the stream and from the results, which both sides share.
+Fails, naming it, if anything of the table never occurred, or below 200,000 calls or 1,000,000 records, or if D4 to D7 of an answer
+are not as request b has them (held.py). A record is one that was answered: by a step, a feed or a run. What happened is decided from
+the stream and from the results, which both sides share.
 """
 import collections
 import concurrent.futures
@@ -10,6 +11,7 @@ import pathlib
 import sys
 
 import calls
+import held
 import lowbyte
 import ranges
 import steps
@@ -18,6 +20,8 @@ from table import Table
 AT_ONCE = 2
 CALLS_LEAST = 200_000
 RECORDS_LEAST = 1_000_000
+RUN_RECORDS_MOST = 100  # longer runs are not followed record by record
+WRONG_SHOWN_MOST = 10
 
 CODES = {
     "feed": (0, 1, 2, 3, 4, 5, 7, 8), "finish": (0, 1, 2, 3, 4, 5, 6, 8), "step": (0, 3, 4, 8), "write event": (0, 3, 4, 7),
@@ -26,6 +30,7 @@ CODES = {
 # The operands of each kind that the table of kinds restricts.
 RESTRICTED = {1: "a", 2: "ac", 3: "ac", 4: "abc", 5: "c", 6: "bc", 7: "abc"}
 UNKNOWN_KINDS = (0, 8, 255)
+ANSWER_BITS = ("ALERT pulled", "T_CRIT_A pulled", "acknowledged", "conversion taken", "sum held")
 
 
 def broken_operands(record):
@@ -54,6 +59,7 @@ def need_everything(table):
     need_places(table)
     steps.need(table)
     lowbyte.need(table)
+    held.need(table)
     ranges.need(table)
 
 
@@ -67,7 +73,7 @@ def need_refusals(table):
         table.need(f"{call}: 3 before 7", f"{call}: 4 before 7")
     table.need("feed: 5 with a count of 0", "run: 5 with a count of 0")
     table.need("write header: 2 before 7", "step: 8 before 3", "step: 8 before 4")
-    for bit, name in enumerate(("ALERT pulled", "T_CRIT_A pulled", "acknowledged", "conversion taken")):
+    for bit, name in enumerate(ANSWER_BITS):
         table.need(f"run: answer D{bit} {name}", f"run: answer D{bit} clear")
 
 
@@ -111,7 +117,9 @@ class Watcher:
         self.reader_set = set()
         self.no_room = False
         self.steps = steps.Steps(self.table)
+        self.held_steps = held.Steps(self.table)
         self.feeds = lowbyte.Feeds(self.table)
+        self.held_feeds = held.Feeds(self.table)
         parts = calls.split(stream)
         self.calls = len(parts)
         for command, times in collections.Counter(call[0] for call in parts).items():
@@ -122,16 +130,18 @@ class Watcher:
     # ---- The reader ----
 
     def see_fresh_reader(self, _call, _result):
-        self.reader = bytes(calls.READER_BYTES)
+        self.set_reader(bytes(calls.READER_BYTES))
         self.reader_set = set()
-        self.no_room = False
-        self.feeds.set_reader(self.reader)
 
     def see_set_the_reader(self, call, _result):
-        self.reader = call[1:]
+        self.set_reader(call[1:])
         self.reader_set = {"feed", "finish"}
+
+    def set_reader(self, reader):
+        self.reader = reader
         self.no_room = False
-        self.feeds.set_reader(self.reader)
+        self.feeds.set_reader(reader)
+        self.held_feeds.set_reader()
 
     def see_ranges(self, name, code):
         """The ranges of a reader that was set, once for each sort of call."""
@@ -163,7 +173,10 @@ class Watcher:
             self.table.count(f"after lasting code {before[13]}: {'bytes' if part else 'empty part'}")
             return
         self.see_places(before, part, code)
-        self.feeds.see_feed(before, part, code, consumed, result[10 : 10 + written], self.reader)
+        records = before[10 : 10 + before[9]] + part[max(0, calls.HEADER_BYTES - before[0]) :]
+        answered = calls.answered(records, result[10 : 10 + written])
+        self.feeds.see_feed(before, part, code, consumed, answered, self.reader)
+        self.held_feeds.see_feed(before, part, code, answered, self.reader)
         self.see_room("feed", calls.room(call), code, written)
         self.see_retry(part, code, consumed, written)
         if code in (3, 4):
@@ -235,17 +248,21 @@ class Watcher:
         kinds = capture[6 : 6 + 2 * written : 4]
         for kind, name in calls.KINDS.items():
             self.table.count(f"run: kind {kind} {name}", kinds.count(kind))
-        self.see_answers(answers[::2])
-        lowbyte.see_run(self.table, capture, answers[::2])
+        self.see_answers(kinds, answers[::2])
+        if 0 < written // 2 <= RUN_RECORDS_MOST:
+            answered = calls.answered(capture[calls.HEADER_BYTES :], answers)
+            lowbyte.see_run(self.table, capture[1], answered)
+            held.see_run(self.table, capture, answered)
         at = 6 + 2 * written
         if code in (3, 4):
             self.see_refused("run", code, capture[at : at + 4], calls.room(call) - written < 2)
         if code == 5 and calls.number(capture[2:6]) == 0:
             self.table.count("run: 5 with a count of 0")
 
-    def see_answers(self, firsts):
-        often = [(value, firsts.count(value)) for value in range(16)]
-        for bit, name in enumerate(("ALERT pulled", "T_CRIT_A pulled", "acknowledged", "conversion taken")):
+    def see_answers(self, kinds, firsts):
+        held.see_answers(self.table, kinds, firsts)
+        often = [(value, firsts.count(value)) for value in range(1 << len(ANSWER_BITS))]
+        for bit, name in enumerate(ANSWER_BITS):
             pulled = sum(n for value, n in often if value & 1 << bit)
             self.table.count(f"run: answer D{bit} {name}", pulled)
             self.table.count(f"run: answer D{bit} clear", len(firsts) - pulled)
@@ -253,11 +270,15 @@ class Watcher:
     # ---- The device ----
 
     def see_set_the_device(self, call, _result):
-        self.steps.set_device(call[1:])
+        self.set_device(call[1:])
 
     def see_power_on(self, call, result):
         self.table.count_value("power on: each byte as the variant", call[1])
-        self.steps.set_device(result[1:])
+        self.set_device(result[1:])
+
+    def set_device(self, device):
+        self.steps.set_device(device)
+        self.held_steps.set_device()
 
     def see_step(self, call, result):
         code, record = result[1], call[1:5]
@@ -271,6 +292,7 @@ class Watcher:
             self.table.count("step: 8 before 3")
         elif broken_operands(record):
             self.table.count("step: 8 before 4")
+        self.held_steps.see(record, self.steps.device, result)
         self.steps.see(record, result)
 
     # ---- The writers and the decoder ----
@@ -315,8 +337,9 @@ def main():
     need_everything(table)
     with concurrent.futures.ProcessPoolExecutor(AT_ONCE) as pool:
         found = list(pool.map(watched, names))
-    for _, _, counted in found:
+    for name, (_, _, counted) in zip(names, found):
         table.add(counted)
+        table.wrong += [f"{pathlib.Path(name).stem}: {words}" for words in counted.wrong]
     table.show()
     for name, (some_calls, some_records, _) in zip(names, found):
         print(f"covered: {pathlib.Path(name).stem}: {some_calls} calls, {some_records} records")
@@ -329,7 +352,11 @@ def main():
         missed.append(f"{RECORDS_LEAST} records")
     for name in missed:
         print(f"covered: not reached: {name}")
-    return 1 if missed else 0
+    for words in table.wrong[:WRONG_SHOWN_MOST]:
+        print(f"covered: wrong: {words}")
+    if table.wrong:
+        print(f"covered: {len(table.wrong)} answers are not as request b has them")
+    return 1 if missed or table.wrong else 0
 
 
 if __name__ == "__main__":

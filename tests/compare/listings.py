@@ -19,6 +19,12 @@ def accepted(listing):
     return len(last) == 3 and last[0] == b"end" and last[2] == b"0"
 
 
+def held_lines(listing):
+    """The lines of a listing whose first answer byte has D4."""
+    records = [line.split() for line in listing.split(b"\n")[:-1] if not line.startswith(b"end")]
+    return sum(int(first, 16) >> 4 & 1 for _, first, _ in records)
+
+
 def statuses_due(pair):
     return [0, 0 if accepted(pair[1][1]) else 1]
 
@@ -45,9 +51,10 @@ def main():
             return 1
     statuses = [lm89[0] for _, lm89 in pairs]
     lines = sum(second[1].count(b"\n") for second, _ in pairs)
-    print(f"listings: {len(pairs)} captures agree, {statuses.count(0)} accepted and {statuses.count(1)} not, {lines} lines")
-    if set(statuses) != {0, 1}:
-        print(f"listings: {sys.argv[3]} must have captures that are accepted and others: add them to tests/compare/streams.c")
+    held = sum(held_lines(second[1]) for second, _ in pairs)
+    print(f"listings: {len(pairs)} captures agree, {statuses.count(0)} accepted and {statuses.count(1)} not, {lines} lines, {held} with D4")
+    if set(statuses) != {0, 1} or not held:
+        print(f"listings: {sys.argv[3]} must have captures accepted and others, and lines with D4: add them to tests/compare/streams.c")
         return 1
     return 0
 

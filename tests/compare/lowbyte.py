@@ -12,7 +12,6 @@ ANY_OTHER = "another register"
 PLACES = ("01", "10", ANY_OTHER)
 READS_HIGH = {f"{way} of 01": way for way in WAYS}
 READS_LOW = {f"{way} of 10": way for way in WAYS}
-RUN_RECORDS_MOST = 100  # longer runs are not followed record by record
 
 
 def idle_sorts():
@@ -251,15 +250,12 @@ class Records:
         self.first, self.given = None, False
 
 
-def see_run(table, capture, first_answers):
-    """A run, from its capture and the first bytes of its answers."""
-    if not 0 < len(first_answers) <= RUN_RECORDS_MOST:
-        return
+def see_run(table, variant, answered):
+    """A run, from the records that it answered, each with its first answer byte."""
     records = Records(table, "run")
-    records.begin(capture[1], 0)
-    for number, first_answer in enumerate(first_answers):
-        at = calls.HEADER_BYTES + calls.RECORD_BYTES * number
-        records.see(capture[at : at + calls.RECORD_BYTES], first_answer)
+    records.begin(variant, 0)
+    for record, first_answer in answered:
+        records.see(record, first_answer)
 
 
 class Feeds(Records):
@@ -274,17 +270,15 @@ class Feeds(Records):
         self.first = "set" if reader[READER_LOW_KEPT] else None
         self.between, self.given, self.lost, self.cut = set(), False, False, False
 
-    def see_feed(self, before, part, code, consumed, answers, after):
+    def see_feed(self, before, part, code, consumed, answered, after):
         """A feed whose reader was within its ranges and held no code."""
         if before[0] < 2 <= after[0]:
             self.see_variant(before, after)
         self.between.add("cut")
         self.begin(after[DEVICE], before[READER_POINTER] if before[0] >= 2 else 0)
         within = self.cut and before[0] == calls.HEADER_BYTES
-        records = before[10 : 10 + before[9]] + part[max(0, calls.HEADER_BYTES - before[0]) :]
-        for number in range(len(answers) // 2):
-            at = calls.RECORD_BYTES * number
-            reads = self.see(records[at : at + calls.RECORD_BYTES], answers[2 * number])
+        for number, (record, first_answer) in enumerate(answered):
+            reads = self.see(record, first_answer)
             if reads and number == 0 and within and before[READER_LOW_KEPT]:
                 self.count(f"cut after {before[9]} bytes of the record that reads 10")
         if code == 7:

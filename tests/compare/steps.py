@@ -11,6 +11,7 @@ ALERTING = 0x7B
 ALERT_MASK, QUEUE, COMPARATOR = 0x80, 0x01, 0x01
 LIMITS = ("local high", "local low", "local T_CRIT", "remote high", "remote low", "remote T_CRIT")
 PLACES = {0: "at the limit", 1: "one step out", 2: "two steps out", -1: "one step within", -2: "two steps within"}
+NAMED_SUMS = {1023: "1023", 1024: "1024 held to 1023", -1024: "-1024", -1025: "-1025 held to -1024"}
 OTHER_ADDRESSES = ("0Ch", "the other part's", "any other")
 
 RULINGS = """
@@ -221,6 +222,8 @@ class Steps:
 
     def see_crit(self, before, after, first):
         local, remote, mask = after[9], after[10], after[11]
+        if not local and not remote:
+            return
         for name, place, masking in (("local", 9, 0x04), ("remote", 10, 0x10)):
             self.when(after[place] and not before[place], f"P8 {name} latch set")
             self.when(after[place] and mask & masking and not first & 2, f"P8 {name} latch masked, not pulled")
@@ -270,9 +273,8 @@ class Steps:
         self.when(offset < 0, "P1 negative offset")
         self.when(before[18], "P1 offset with a low byte")
         total = eighths(event[2], event[3]) + offset
-        named = {1023: "1023", 1024: "1024 held to 1023", -1024: "-1024", -1025: "-1025 held to -1024"}
         far = "far above held to 1023" if total > 1024 else "far below held to -1024" if total < -1025 else "in the middle"
-        self.table.count(f"P2 sum {named.get(total, far)}")
+        self.table.count(f"P2 sum {NAMED_SUMS.get(total, far)}")
 
     def see_limits(self, after):
         local, remote = degrees(after[4]), ranges.remote_reading(after)

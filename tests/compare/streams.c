@@ -663,6 +663,83 @@ static stretch plan_row(bench *b, row r)
     return between;
 }
 
+/* ---- Request b: sums at and past the ends of the scale -------------------- */
+
+/* The offset of a row: as large as can be, an eighth, any or none. */
+enum { LARGEST, AN_EIGHTH, ANY_OR_NONE, OFFSETS };
+
+/* What stands behind a row's conversion: a sort of request a's events, or any kind on the bus with a register that is none. */
+enum { SORTS_BEHIND = SORTS + BUS_KINDS };
+
+/* How far a row's sum lies past its end of the scale: one within it, at it, one past it, two, or further. */
+enum { WITHIN = -1, FAR = 3 };
+
+/* A row of events: a conversion whose sum lies so far past an end of the scale, and an event behind it. */
+typedef struct {
+    bool upper; /* which end */
+    int past;
+    unsigned offset;
+    unsigned behind;
+} sum_row;
+
+/* Behind a sum past its end comes every sort of event, behind another one sort in four. */
+static void every_sum(void (*take)(sum_row))
+{
+    for (unsigned offset = 0; offset < OFFSETS; offset++)
+        for (int past = WITHIN; past <= FAR; past++)
+            for (unsigned behind = 0; behind < SORTS_BEHIND; behind += past > 0 ? 1 : 4) {
+                take((sum_row){ true, past, offset, behind });
+                take((sum_row){ false, past, offset, behind });
+            }
+}
+
+/* An offset that carries a sample over this end, as the two bytes of the settings. */
+static void set_offset(uint8_t *set, sum_row r)
+{
+    int size = r.offset == LARGEST ? -REMOTE_LEAST : 1;
+    if (r.offset == ANY_OR_NONE)
+        size = one_in(4) ? 0 : (int)below(-REMOTE_LEAST);
+    unsigned bits = (unsigned)(held(r.upper ? size : -size, REMOTE_LEAST, REMOTE_MOST) + 2048);
+    set[OFFSET] = (uint8_t)(bits / 8);
+    set[OFFSET_FINE] = (uint8_t)(bits % 8 * LOW_STEP);
+}
+
+/* The writes that a row needs at power-on: its offset, and in half of the rows any mode, in standby mostly with a one-shot. */
+static void plan_mode(bench *b, sum_row r)
+{
+    uint8_t wanted[SETTINGS];
+    set_offset(wanted, r);
+    for (unsigned place = OFFSET; place <= OFFSET_FINE; place++)
+        if (b->set[place] != wanted[place])
+            plan_set(b, place, wanted[place]);
+    if (one_in(2))
+        return;
+    plan_set(b, ALERT_MODE, any_byte());
+    plan_set(b, CONFIGURATION, any_byte());
+    if ((b->set[CONFIGURATION] & STANDBY) != 0 && !one_in(4))
+        plan(b, WRITE, own_address(b), ONE_SHOT, 0);
+}
+
+/* Plans a row, its offset being set, and gives the place of its conversion. The send that a receive needs goes before that. */
+static unsigned plan_sum(bench *b, sum_row r)
+{
+    int past = r.past == FAR ? FAR + (int)below(1000) : r.past;
+    unsigned place = b->planned;
+    plan_remote(b, r.upper ? REMOTE_MOST + past : REMOTE_LEAST - past);
+    if (r.behind < SORTS)
+        plan_between(b, r.behind);
+    else
+        plan_on_bus(b, (uint8_t)(WRITE + r.behind - SORTS), own_address(b), ONE_OF(outside));
+    if (b->planned == place + 3) {
+        record conversion = b->plan[place];
+        b->plan[place] = b->plan[place + 1];
+        b->plan[++place] = conversion;
+    }
+    if (one_in(2))
+        plan_plain(b, 1 + below(2)); /* a further conversion */
+    return place;
+}
+
 /* ---- What comes next ---------------------------------------------------- */
 
 static void plan_scene(bench *b)
@@ -870,6 +947,12 @@ static void step(record event)
     call_step(event);
 }
 
+static void step_plan(bench *b)
+{
+    while (b->played < b->planned)
+        step(b->plan[b->played++]);
+}
+
 /* A row of request a, from a random state. */
 static void step_row(row r)
 {
@@ -879,8 +962,35 @@ static void step_row(row r)
     call_device(dump);
     aim_at(&b, dump);
     plan_row(&b, r);
-    while (b.played < b.planned)
-        step(b.plan[b.played++]);
+    step_plan(&b);
+}
+
+/* A random device with a row's offset; in some cases it can answer the alert response, or waits in standby for a one-shot. */
+static void device_for_sum(uint8_t *dump, sum_row r)
+{
+    uint8_t *set = dump + AT_SETTINGS;
+    random_device(dump);
+    set_offset(set, r);
+    if (one_in(3)) {
+        set[CONFIGURATION] &= (uint8_t)~ALERT_MASK;
+        set[ALERT_MODE] &= (uint8_t)~COMPARATOR;
+    }
+    if (one_in(4)) {
+        set[CONFIGURATION] |= STANDBY;
+        dump[AT_PENDING] = 1;
+    }
+}
+
+/* A row of request b, from a random state. */
+static void step_sum(sum_row r)
+{
+    uint8_t dump[DEVICE_BYTES];
+    bench b;
+    device_for_sum(dump, r);
+    call_device(dump);
+    aim_at(&b, dump);
+    plan_sum(&b, r);
+    step_plan(&b);
 }
 
 static void theme_device(void)
@@ -901,6 +1011,8 @@ static void theme_device(void)
             step(next_record(&b));
     }
     every_row(step_row);
+    for (unsigned round = 0; round < 4; round++)
+        every_sum(step_sum);
 }
 
 /* ---- Ranges of a device ------------------------------------------------- */
@@ -1117,13 +1229,19 @@ static void make_capture(capture *c, size_t records)
         put_record(c->bytes + HEADER_BYTES + RECORD_BYTES * i, next_record(&b));
 }
 
+/* A capture of what is planned. */
+static void put_plan(capture *c, const bench *b)
+{
+    begin_capture(c, b->variant, b->planned);
+    for (size_t i = 0; i < b->planned; i++)
+        put_record(c->bytes + HEADER_BYTES + RECORD_BYTES * i, b->plan[i]);
+}
+
 /* A row of request a as a capture, for the device of this bench. */
 static stretch put_row(capture *c, bench *b, row r)
 {
     stretch between = plan_row(b, r);
-    begin_capture(c, b->variant, b->planned);
-    for (size_t i = 0; i < b->planned; i++)
-        put_record(c->bytes + HEADER_BYTES + RECORD_BYTES * i, b->plan[i]);
+    put_plan(c, b);
     return between;
 }
 
@@ -1132,6 +1250,24 @@ static stretch make_row(capture *c, row r)
     bench b;
     start(&b, (uint8_t)(1 + below(3)));
     return put_row(c, &b, r);
+}
+
+/* A row of request b as a capture, for the device of this bench, and the place of its conversion, with which one in four ends. */
+static unsigned put_sum(capture *c, bench *b, sum_row r)
+{
+    unsigned place = plan_sum(b, r);
+    if (one_in(4))
+        b->planned = place + 1;
+    put_plan(c, b);
+    return place;
+}
+
+static unsigned make_sum(capture *c, sum_row r)
+{
+    bench b;
+    start(&b, (uint8_t)(1 + below(3)));
+    plan_mode(&b, r);
+    return put_sum(c, &b, r);
 }
 
 /* A place between the two reads of a row; the last ones are within the record that reads 10. */
@@ -1330,19 +1466,55 @@ static void plain_reader(uint8_t *dump, unsigned header, uint32_t count, uint32_
         power_on_device(dump + AT_DEVICE, 1);
 }
 
+/* A capture of fewer than 256 records, to a reader with this device that has so many of the header's bytes, at least two. */
+static void feed_to(const uint8_t *device, const capture *c, unsigned header)
+{
+    uint8_t dump[READER_BYTES];
+    plain_reader(dump, header, header == HEADER_BYTES ? (uint32_t)c->records : 0, 0);
+    memcpy(dump + AT_DEVICE, device, DEVICE_BYTES);
+    call_reader(dump);
+    call_feed(c->bytes + header, c->length - header, AMPLE_ROOM);
+}
+
 /* A row of request a, fed to a reader with a random device. */
 static void feed_row_to_any(row r)
 {
-    uint8_t dump[READER_BYTES];
     uint8_t device[DEVICE_BYTES];
     bench b;
     random_device(device);
     aim_at(&b, device);
     put_row(&work, &b, r);
-    plain_reader(dump, HEADER_BYTES, (uint32_t)work.records, 0);
-    memcpy(dump + AT_DEVICE, device, DEVICE_BYTES);
-    call_reader(dump);
-    call_feed(work.bytes + HEADER_BYTES, work.length - HEADER_BYTES, AMPLE_ROOM);
+    feed_to(device, &work, HEADER_BYTES);
+}
+
+/* A row of request b, cut at or in its conversion, or without room for it. */
+static void feed_sum(sum_row r)
+{
+    unsigned place = make_sum(&work, r);
+    uint32_t room = 2 * (uint32_t)work.records;
+    if (one_in(2))
+        feed_twice(&work, HEADER_BYTES + RECORD_BYTES * place + below(RECORD_BYTES), room, room);
+    else
+        feed_twice(&work, work.length, 2 * place, room);
+}
+
+/* A row of request b, fed to a reader with a random device, in most cases with the end of the header. */
+static void feed_sum_to_any(sum_row r)
+{
+    uint8_t device[DEVICE_BYTES];
+    bench b;
+    device_for_sum(device, r);
+    aim_at(&b, device);
+    put_sum(&work, &b, r);
+    feed_to(device, &work, 2 + below(HEADER_BYTES - 1));
+}
+
+static void feed_sum_either_way(sum_row r)
+{
+    if (one_in(3))
+        feed_sum_to_any(r);
+    else
+        feed_sum(r);
 }
 
 /* A reader within its ranges, somewhere in a capture whose bytes stand in `work`. */
@@ -1404,6 +1576,7 @@ static void theme_reader(void)
         feed_random_reader();
     every_row(feed_row);
     every_row(feed_row_to_any);
+    every_sum(feed_sum_either_way);
 }
 
 /* ---- Ranges of a reader ------------------------------------------------- */
@@ -1568,6 +1741,13 @@ static void run_row(row r)
     call_run(work.bytes, work.length, 2 * (uint32_t)work.records);
 }
 
+/* A row of request b as a whole capture. */
+static void run_sum(sum_row r)
+{
+    make_sum(&work, r);
+    call_run(work.bytes, work.length, 2 * (uint32_t)work.records);
+}
+
 static void theme_runs(void)
 {
     call_run(NULL, 0, 0);
@@ -1589,6 +1769,7 @@ static void theme_runs(void)
     call_run(work.bytes, work.length, 200000);
     for (unsigned round = 0; round < 2; round++)
         every_row(run_row);
+    every_sum(run_sum);
 }
 
 /* One row of request a for each sort of event between its reads. */
@@ -1596,6 +1777,15 @@ static void run_some_rows(void)
 {
     for (unsigned sort = 0; sort < SORTS; sort++)
         run_row((row){ sort, sort % SETUPS, HIGH_BYTE, ONE_OF(ways), ways[sort / SETUPS % 2] });
+}
+
+/* One row of request b for each end and each distance from it. */
+static void run_some_sums(void)
+{
+    for (int past = WITHIN; past <= FAR; past++) {
+        run_sum((sum_row){ true, past, LARGEST, below(SORTS_BEHIND) });
+        run_sum((sum_row){ false, past, LARGEST, below(SORTS_BEHIND) });
+    }
 }
 
 static void theme_listed(void)
@@ -1608,6 +1798,7 @@ static void theme_listed(void)
     make_capture(&work, 20000);
     call_run(work.bytes, work.length, 40000);
     run_some_rows();
+    run_some_sums();
 }
 
 int main(int argc, char **argv)

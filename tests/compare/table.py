@@ -1,10 +1,11 @@
-"""A table of things that must occur, and how often each did."""
+"""A table of things that must occur, how often each did, and what is wrong."""
 
 
 class Table:
     def __init__(self):
         self.counts = {}
         self.sets = {}
+        self.wrong = []  # answers that may not be, in words
 
     def need(self, *names):
         """Things that must occur at least once."""
