@@ -170,7 +170,7 @@ enum {
  *
  * LM89_ANSWER_HELD is set exactly if the record is a taken LM89_KIND_CONVERSION whose remote sample plus the offset in force, LM89_REGISTER_OFFSET
  * with its low byte, is above 1023 eighths of a degree or below -1024. The remote reading is then that end of the scale, 127.875 or -128 degrees, and
- * no temperature; without it the reading is the sum. A sum of exactly 1023 or -1024 is not held, and LM89_KIND_OPEN never sets the bit. No later
+ * no temperature; at such a record without the bit it is the sum. A sum of exactly 1023 or -1024 is not held, and LM89_KIND_OPEN never sets the bit. No later
  * record tells it, and no field of a device or reader; `held` of lm89_reader is a code.
  */
 enum {
