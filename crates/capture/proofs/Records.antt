@@ -1,14 +1,14 @@
 -- The loop of `run`, as mathematics: a record judged and stepped, and the next one's first three bytes.
 -- Assumes nothing.
-use Prim.Native.Nat.{ℕ, suc, _+_, _-_, _^_, _≤_, _<_}
-use mathlib.Core.Path.{_≡_, refl, sym, ap, subst, _∙_}
+use Prim.Native.Nat.{ℕ, suc, _+_, _-_, _*_, _^_, _≤_, _<_}
+use mathlib.Core.Path.{_≡_, refl, sym, ap, _∙_}
 use mathlib.Core.List.{List, [], _∷_, _++_, append-nil}
-use mathlib.Core.Bool.{Bool, true, false, _&&_, _||_}
+use mathlib.Core.Bool.{true, false, _&&_}
 use native.Mathlib.Omega.{arith}
-use lib.Dec.{T, eqb, ltb, leb}
+use lib.Dec.{eqb, ltb}
 use lib.ListN.{length, getD, take, drop, length-append, length-drop}
 use lib.Seq.{drop-cons, length-take-le}
-use borrow.Author.Tests.{eqb-true, eqb-false, ltb-true, ltb-false, leb-true, leb-false}
+use borrow.Author.Tests.{eqb-true, eqb-false, ltb-true, leb-true}
 use Rattle.laws.proofs.Choices.{and-left, and-right}
 use Rattle.device.specs.declared.Event.{Event}
 use Rattle.record.specs.declared.Record.{Record}
@@ -20,7 +20,7 @@ use Rattle.capture.specs.declared.Reader.{Reader}
 use Rattle.capture.specs.Sensor.{Sensor, Answered, headerLength, sensorEffect}
 use Rattle.capture.specs.Reader.{withCarried, holdOf, betweenOf, headerLengthOf, headerDone, rangesOf}
 use Rattle.capture.specs.Reader.{quietOf, answeredOf, judgedOf, turnOf, feedOf, Out, joinOf, reportOf, Meets}
-use Rattle.capture.specs.Loops.{Going, Onward, waitsOf, carryingOf, Took}
+use Rattle.capture.specs.Loops.{Going, Onward, waitsOf, carryingOf, uptoOf, Took}
 use Rattle.capture.proofs.Sensors.{effect-devices}
 use Rattle.capture.proofs.Turns.{judged-turn}
 use Rattle.capture.proofs.InRange.{ranges, count-fits, turn-ranges}
@@ -146,41 +146,17 @@ next-three {o} {input} {entry} {answers} s done device {at} {written} small z h 
 
 -- ---- the loop
 
--- where it goes on: another record is counted, its four bytes are there, and so is room
-pub record Next (count done input at answers written : ℕ) : Type 0 where
-  pub counted : done + 1 < count
-  pub bytes : at + 1 + 4 ≤ input
-  pub room : written + 2 + 2 ≤ answers
-  pub fits : input < 2 ^ 64
-
--- its test says so
-pub goes-on : {count done input at room written : ℕ} → input < 2 ^ 64
-    → (leb count (done + 1) || ltb (input - (at + 1)) 4 || ltb (room - (written + 2)) 2) ≡ false → Next count done input at room written
-goes-on {count} {done} {input} {at} {room} {written} f e =
-    split (leb count (done + 1)) (ltb (input - (at + 1)) 4) (ltb (room - (written + 2)) 2) refl refl refl e
-  where
-    split : (x y z : Bool) → leb count (done + 1) ≡ x → ltb (input - (at + 1)) 4 ≡ y → ltb (room - (written + 2)) 2 ≡ z
-        → (x || y || z) ≡ false → Next count done input at room written
-    split true y z a b c n = absurd (subst T n tt)
-    split false true z a b c n = absurd (subst T n tt)
-    split false false true a b c n = absurd (subst T n tt)
-    split false false false a b c n = record {
-      counted = leb-false count (done + 1) a;
-      bytes = omega (arith, ltb-false (input - (at + 1)) 4 b);
-      room = omega (arith, ltb-false (room - (written + 2)) 2 c);
-      fits = f;
-    }
-
--- what is known at its head
+-- what is known at its head, where so many records are left: each is counted, whole in the input, and has room
 pub record Running (s : Reader) (input before : List ℕ) (from start : ℕ)
-    (answers : List ℕ) (kind a b : ℕ) (device : Sensor) (done at written : ℕ) : Type 0 where
+    (answers : List ℕ) (kind a b : ℕ) (device : Sensor) (done at written left : ℕ) : Type 0 where
   pub waits : AtFourth s
   pub complete : s .head ≡ headerLength device
   pub onward : Onward input before s from start answers (carryingOf s done device kind a b) at written
   pub forward : from ≤ at
-  pub inside : at < length input
-  pub counted : done < s .count
-  pub room : written + 2 ≤ length answers
+  pub some : 1 ≤ left
+  pub counted : done + left ≤ s .count
+  pub whole : at + 4 * left ≤ length input + 3
+  pub room : written + 2 * left ≤ length answers
   pub long : length answers ≡ length before
   pub input-fits : length input < 2 ^ 64
   pub answers-fit : length before < 2 ^ 64
@@ -189,6 +165,7 @@ pub record Running (s : Reader) (input before : List ℕ) (from start : ℕ)
 pub run-start : (s : Reader) (input before : List ℕ) (from start : ℕ) → rangesOf s ≡ true → waitsOf s ≡ true → length (s .bytes) ≡ 3
     → from < length input → start + 2 ≤ length before → length input < 2 ^ 64 → length before < 2 ^ 64
     → Running s input before from start before (getD (s .bytes) 0 0) (getD (s .bytes) 1 0) (getD (s .bytes) 2 0) (s .device) (s .done) from start
+    (uptoOf (s .count - s .done) (length input - from) (length before - start))
 run-start s input before from start r w e l n f h =
     let k = waiting s r w in
     record {
@@ -196,9 +173,10 @@ run-start s input before from start r w e l n f h =
       complete = k .head;
       onward = λ o entry g. rw (itself s k e) g;
       forward = omega arith;
-      inside = l;
-      counted = k .counted;
-      room = n;
+      some = omega (arith, k .counted);
+      counted = omega (arith, k .counted);
+      whole = omega arith;
+      room = omega arith;
       long = refl;
       input-fits = f;
       answers-fit = h;
@@ -207,27 +185,34 @@ run-start s input before from start r w e l n f h =
 
 -- once a record is stepped and its pair stored: as it leaves, and as it goes on
 pub record Stepped (s : Reader) (input before : List ℕ) (from start : ℕ)
-    (answers after : List ℕ) (device : Sensor) (done at written : ℕ) : Type 0 where
+    (answers after : List ℕ) (device : Sensor) (done at written left : ℕ) : Type 0 where
   pub long : length after ≡ length answers
-  pub left : Took input before s from start after (reportOf 0 (at + 1) (written + 2) (betweenOf s (done + 1) device))
-  pub again : Next (s .count) done (length input) at (length after) written
+  pub leaves : Took input before s from start after (reportOf 0 (at + 1) (written + 2) (betweenOf s (done + 1) device))
+  pub again : 1 < left
       → Running s input before from start after (getD input (at + 1) 0) (getD input (at + 1 + 1) 0) (getD input (at + 1 + 2) 0)
-      device (done + 1) (at + 1 + 3) (written + 2)
+      device (done + 1) (at + 1 + 3) (written + 2) (left - 1)
 
-module _ {s : Reader} {input before : List ℕ} {from start : ℕ} {answers : List ℕ} {kind a b : ℕ} {device : Sensor} {done at written : ℕ}
-    (r : Running s input before from start answers kind a b device done at written) where
+module _ {s : Reader} {input before : List ℕ} {from start : ℕ} {answers : List ℕ} {kind a b : ℕ} {device : Sensor} {done at written left : ℕ}
+    (r : Running s input before from start answers kind a b device done at written left) where
   abbrev state : Reader
   state = carryingOf s done device kind a b
 
   here : AtFourth state
-  here = record { held = r .waits .held; head = r .complete; carried = refl; counted = r .counted }
+  here = record { held = r .waits .held; head = r .complete; carried = refl; counted = omega (arith, r .some, r .counted) }
+
+  -- of those left, the one at hand: its fourth byte is there, and so is its room
+  inside : at < length input
+  inside = omega (arith, r .some, r .whole)
+
+  lent : written + 2 ≤ length answers
+  lent = omega (arith, r .some, r .room)
 
   pub run-refused : (why : Refusal) → decodeOf kind a b (getD input at 0) ≡ Refused why
       → Took input before s from start answers (reportOf (codeOf (Refused why)) at written (holdOf state (codeOf (Refused why))))
   run-refused why q = record {
     onward = λ z. absurd (lasting why z);
     forward = λ z. absurd (lasting why z);
-    ends = λ x o entry g. ends-refused here (r .onward o entry g) (r .inside) why q;
+    ends = λ x o entry g. ends-refused here (r .onward o entry g) inside why q;
   }
 
   -- a record that is an event, its pair laid behind the answers
@@ -237,28 +222,30 @@ module _ {s : Reader} {input before : List ℕ} {from start : ℕ} {answers : Li
     next = sensorEffect device e .sensor
 
     done-one : Onward input before s from start after (betweenOf s (done + 1) next) (at + 1) (written + 2)
-    done-one o entry g = stepped here (r .onward o entry g) (r .inside) e (small at) q (omega (arith, r .room)) laid
+    done-one o entry g = stepped here (r .onward o entry g) inside e (small at) q (omega (arith, lent)) laid
 
     finished : s .head ≡ headerLength next
     finished = omega (arith, r .complete, effect-devices device e)
 
     same-room : length after ≡ length answers
     same-room =
-        let w : length (take written answers) ≡ written = length-take-le written answers (omega (arith, r .room)) in
-        rw laid (simp (length-append, length-drop, w) (omega (arith, r .room)))
+        let w : length (take written answers) ≡ written = length-take-le written answers (omega (arith, lent)) in
+        rw laid (simp (length-append, length-drop, w) (omega (arith, lent)))
 
-    run-stepped : Stepped s input before from start answers after next done at written
+    run-stepped : Stepped s input before from start answers after next done at written left
     run-stepped = record {
       long = same-room;
-      left = record { onward = λ _. done-one; forward = λ _. omega (arith, r .forward); ends = λ n. absurd (n refl) };
+      leaves = record { onward = λ _. done-one; forward = λ _. omega (arith, r .forward); ends = λ n. absurd (n refl) };
       again = λ n. record {
         waits = r .waits;
         complete = finished;
-        onward = λ o entry g. next-three s (done + 1) next small (r .waits .held) finished (n .counted) (n .bytes) (done-one o entry g);
+        onward = λ o entry g.
+            next-three s (done + 1) next small (r .waits .held) finished (omega (arith, r .counted)) (omega (arith, r .whole)) (done-one o entry g);
         forward = omega (arith, r .forward);
-        inside = omega (arith, n .bytes);
-        counted = n .counted;
-        room = n .room;
+        some = omega arith;
+        counted = omega (arith, r .counted);
+        whole = omega (arith, r .whole);
+        room = omega (arith, r .room, same-room);
         long = same-room ∙ r .long;
         input-fits = r .input-fits;
         answers-fit = r .answers-fit;
@@ -270,5 +257,5 @@ module _ {s : Reader} {input before : List ℕ} {from start : ℕ} {answers : Li
   pub run-effect : ((i : ℕ) → getD input i 0 < 256) → (e : Event) → decodeOf kind a b (getD input at 0) ≡ Valid e
       → {o : Answered} → o ≡ sensorEffect device e
       → {after : List ℕ} → after ≡ take written answers ++ (o .first ∷ o .second ∷ drop 2 (drop written answers))
-      → Stepped s input before from start answers after (o .sensor) done at written
+      → Stepped s input before from start answers after (o .sensor) done at written left
   run-effect small e q f laid = rw f (run-stepped small e q (rw f at laid))

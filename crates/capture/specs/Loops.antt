@@ -1,6 +1,6 @@
 -- What the reader's loops promise each other: what is known between two bytes of a call. `feed` promises no more than `Meets`.
 -- Assumes nothing.
-use Prim.Native.Nat.{ℕ, _-_, _≤_, _<_}
+use Prim.Native.Nat.{ℕ, _+_, _-_, _/_, min, _≤_, _<_}
 use mathlib.Core.Path.{_≡_}
 use mathlib.Core.List.{List, [], _∷_}
 use mathlib.Core.Bool.{Bool, true, _&&_}
@@ -33,6 +33,10 @@ waitsOf s = eqb (s .held) 0 && eqb (s .carried) 3
 -- so many records done with this device, and a record's first three bytes carried
 abbrev pub carryingOf : Reader → ℕ → Sensor → ℕ → ℕ → ℕ → Reader
 carryingOf s done sensor kind a b = withCarried (withDone (withDevice s sensor) done) 3 (kind ∷ a ∷ b ∷ [])
+
+-- how many records can be taken from a fourth byte on: of so many counted and not done, those whole in so many bytes, and with room for answers
+abbrev pub uptoOf : ℕ → ℕ → ℕ → ℕ
+uptoOf counted bytes room = min counted (min ((bytes + 3) / 4) (room / 2))
 
 -- bytes that complete no record are taken: up to the end, a refused byte, or one that completes a record
 pub record Led (input : List ℕ) (s : Reader) (from : ℕ) (a : Ahead) : Type 0 where

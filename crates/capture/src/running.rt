@@ -2,10 +2,10 @@
 ghost use mathlib.Core.Path.{_≡_};
 ghost use mathlib.Core.Bool.{true};
 ghost use mathlib.Core.List.{_∷_};
-ghost use Prim.Native.Nat.{_+_, _≤_, _<_};
+ghost use Prim.Native.Nat.{_+_, min, _≤_, _<_};
 ghost use lib.ListN.{length, drop};
 ghost use Rattle.capture.specs.Reader.{rangesOf, holdOf, betweenOf, reportOf};
-ghost use Rattle.capture.specs.Loops.{waitsOf, carryingOf, Took, Full};
+ghost use Rattle.capture.specs.Loops.{waitsOf, carryingOf, uptoOf, Took, Full};
 use super::Fed;
 use super::Reader;
 use super::report;
@@ -68,6 +68,23 @@ pub(crate) fn no_room(s: Reader, c: u8, at: usize, written: usize) -> Fed
     report(7, at, written, s)
 }
 
+fn lesser(a: usize, b: usize) -> usize
+    ensures { λ r. ⌜ r ≡ min a b ⌝ }
+{
+    if a < b {
+        return a;
+    }
+    b
+}
+
+// How many records can be taken from a fourth byte on: the least of those counted, whole in the bytes, and with room.
+fn upto(counted: u32, bytes: usize, room: usize) -> usize
+    requires { ⌜ 0 < bytes ⌝ }
+    ensures { λ r. ⌜ r ≡ uptoOf counted bytes room ⌝ }
+{
+    lesser(counted as usize, lesser((bytes - 1) / 4 + 1, room / 2))
+}
+
 // From a record whose fourth byte is next, for as long as whole records follow: a code that ends the call, or 0.
 pub(crate) fn run(s: Reader, input: &[u8], from: usize, answers: &mut [u8], start: usize) -> Fed
     requires { ⌜ rangesOf s ≡ true ⌝ }
@@ -84,6 +101,7 @@ pub(crate) fn run(s: Reader, input: &[u8], from: usize, answers: &mut [u8], star
     let mut done = s.done;
     let mut at = from;
     let mut written = start;
+    let mut left = upto(s.count - s.done, input.len() - from, answers.len() - start);
     loop {
         let r = record::decode(kind, a, b, input[at]);
         let Record::Valid(e) = r else {
@@ -96,7 +114,8 @@ pub(crate) fn run(s: Reader, input: &[u8], from: usize, answers: &mut [u8], star
         done = done + 1;
         written = written + 2;
         at = at + 1;
-        if (s.count <= done) | (input.len() - at < 4) | (answers.len() - written < 2) {
+        left = left - 1;
+        if left == 0 {
             return report(0, at, written, between(s, done, device));
         }
         kind = input[at];

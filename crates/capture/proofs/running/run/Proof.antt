@@ -1,22 +1,22 @@
 -- Assumes nothing.
 use borrow.Author.Needs.{needs}
-use Prim.Native.Nat.{ℕ, _-_}
+use Prim.Native.Nat.{ℕ, _-_, _<_}
 use borrow.Rule.Slice.PartMut.{putMid}
 use native.Mathlib.Omega.{arith}
 use lib.ListN.{length}
 use mathlib.Core.Path.{sym, _∙_}
 use mathlib.Core.List.{List, [], _∷_}
 use Rattle.laws.proofs.Buffers.{laid}
-use Rattle.capture.proofs.Records.{Running, Stepped, Next, goes-on, run-start, run-refused, run-effect}
+use Rattle.capture.proofs.Records.{Running, Stepped, waiting, run-start, run-refused, run-effect}
 use Rattle.capture.proofs.running.run.Statement.{statement}
 use Rattle.capture.proofs.running.run.Tie as tie
 
 abbrev Inv-loop : tie.InvT-loop
-Inv-loop s input from answers₀ start kind₀ a₀ b₀ device₀ done₀ at₀ written₀ answers kind a b device done at written =
-    Running s input answers₀ from start answers kind a b device done at written
+Inv-loop s input from answers₀ start kind₀ a₀ b₀ device₀ done₀ at₀ written₀ left₀ answers kind a b device done at written left =
+    Running s input answers₀ from start answers kind a b device done at written left
 
 abbrev μ-loop : tie.MeasureT-loop
-μ-loop s input from answers₀ start kind₀ a₀ b₀ device₀ done₀ at₀ written₀ answers kind a b device done at written = length input - at
+μ-loop s input from answers₀ start kind₀ a₀ b₀ device₀ done₀ at₀ written₀ left₀ answers kind a b device done at written left = left
 
 -- the answers with a record's pair stored
 abbrev after : tie.After-put-pair Inv-loop μ-loop → List ℕ
@@ -26,9 +26,9 @@ after p =
 
 stored : (p : tie.After-put-pair Inv-loop μ-loop)
     → let l = p .before .before .before .before .before .before .before .before .before .loop in
-    let a = p .before .before .before .before .before .before .before .before .before .before .before .before .before .before .args in
+    let a = p .before .before .before .before .before .before .before .before .before .before .before .before .before .before .before .before .args in
     Stepped (a .s) (a .input .now) (a .answers .now) (a .from) (a .start) (l .answers) (after p)
-    (p .before .before .before .effect .result .device) (l .done) (l .at) (l .written)
+    (p .before .before .before .effect .result .device) (l .done) (l .at) (l .written) (l .left)
 stored p =
     let r = p .before .before .before .before .before in
     let known = r .before .before .before in
@@ -38,15 +38,10 @@ stored p =
     run-effect (l .inv) (λ i. known .shared-slice-known2 .given i .fits) _ valid (p .before .before .before .effect .ensures)
     (rw (p .before .first .ensures) at pair)
 
--- behind the loop's test
+-- behind the loop's test another record is left
 more : (c : tie.Else1 Inv-loop μ-loop)
-    → let p = c .before .before .before .before .before in
-    let l = p .before .before .before .before .before .before .before .before .before .loop in
-    let a = p .before .before .before .before .before .before .before .before .before .before .before .before .before .before .args in
-    Next (a .s .count) (l .done) (length (a .input .now)) (l .at) (length (after p)) (l .written)
-more c =
-    let p = c .before .before .before .before .before in
-    goes-on (p .before .before .before .before .before .before .before .before .before .loop .inv .input-fits) (c .if1 .left)
+    → 1 < c .before .before .before .before .before .before .before .before .before .before .before .before .before .loop .left
+more c = omega (arith, c .if1 .left)
 
 array-read-kind : tie.Need-array-read-kind Inv-loop μ-loop
 array-read-kind c = search needs
@@ -57,13 +52,28 @@ array-read-a c = search needs
 array-read-b : tie.Need-array-read-b Inv-loop μ-loop
 array-read-b c = search needs
 
+sub-upto : tie.Need-sub-upto Inv-loop μ-loop
+sub-upto c =
+    let b = c .before .before .before .before .before in
+    omega (arith, waiting (b .args .s) (b .pre .0) (b .pre .1 .0))
+
+sub-upto-2 : tie.Need-sub-upto-2 Inv-loop μ-loop
+sub-upto-2 c = search needs
+
+sub-upto-3 : tie.Need-sub-upto-3 Inv-loop μ-loop
+sub-upto-3 c = search needs
+
+upto-requires : tie.Need-upto-requires Inv-loop μ-loop
+upto-requires c κs = search needs
+
 loop-holds : tie.Need-loop-holds Inv-loop μ-loop
 loop-holds c =
-    let b = c .before .before .before .before in
+    let b = c .before .before .before .before .before .before in
     let a = b .args in
     let p = b .pre in
-    run-start (a .s) (a .input .now) (a .answers .now) (a .from) (a .start) (p .0) (p .1 .0) (search needs) (p .1 .1 .0) (p .1 .1 .1)
-    (omega arith) (omega arith)
+    rw (c .upto .ensures)
+    (run-start (a .s) (a .input .now) (a .answers .now) (a .from) (a .start) (p .0) (p .1 .0) (search needs) (p .1 .1 .0) (p .1 .1 .1)
+    (omega arith) (omega arith))
 
 shared-slice-read-decode : tie.Need-shared-slice-read-decode Inv-loop μ-loop
 shared-slice-read-decode c = search needs
@@ -124,11 +134,8 @@ add-written c = search needs
 add-at : tie.Need-add-at Inv-loop μ-loop
 add-at c = search needs
 
-sub-if1 : tie.Need-sub-if1 Inv-loop μ-loop
-sub-if1 c = search needs
-
-sub-if1-2 : tie.Need-sub-if1-2 Inv-loop μ-loop
-sub-if1-2 c = search needs
+sub-left : tie.Need-sub-left Inv-loop μ-loop
+sub-left c = search needs
 
 between-requires : tie.Need-between-requires Inv-loop μ-loop
 between-requires c κs = search needs
@@ -138,11 +145,11 @@ report-requires c κs = search needs
 
 same-length-2 : tie.Need-same-length-2 Inv-loop μ-loop
 same-length-2 c =
-    let p = c .before .before .before .before .before .before .before in
+    let p = c .before .before .before .before .before .before in
     stored p .long ∙ p .before .before .before .before .before .before .before .before .before .loop .inv .long
 
 returns-2 : tie.Need-returns-2 Inv-loop μ-loop
-returns-2 c = rw (c .report .ensures, c .before .between .ensures) (stored (c .before .before .before .before .before .before .before) .left)
+returns-2 c = rw (c .report .ensures, c .before .between .ensures) (stored (c .before .before .before .before .before .before) .leaves)
 
 shared-slice-read-kind : tie.Need-shared-slice-read-kind Inv-loop μ-loop
 shared-slice-read-kind c = omega (arith, more (c .before))
@@ -163,10 +170,10 @@ add-at-2 : tie.Need-add-at-2 Inv-loop μ-loop
 add-at-2 c = omega (arith, more (c .before .before .before))
 
 loop-less : tie.Need-loop-less Inv-loop μ-loop
-loop-less c = search needs
+loop-less c = omega (arith, more (c .before .before .before))
 
 loop-again : tie.Need-loop-again Inv-loop μ-loop
-loop-again c = stored (c .before .before .before .before .before .before .before .before) .again (more (c .before .before .before))
+loop-again c = stored (c .before .before .before .before .before .before .before) .again (more (c .before .before .before))
 
 pub run-spec : {M : Type 1} → statement M
 run-spec =
@@ -177,6 +184,10 @@ run-spec =
     array-read-kind
     array-read-a
     array-read-b
+    sub-upto
+    sub-upto-2
+    sub-upto-3
+    upto-requires
     loop-holds
     shared-slice-read-decode
     decode-requires
@@ -196,8 +207,7 @@ run-spec =
     add-done
     add-written
     add-at
-    sub-if1
-    sub-if1-2
+    sub-left
     between-requires
     report-requires
     same-length-2
