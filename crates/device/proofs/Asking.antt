@@ -7,7 +7,7 @@ use lib.Dec.{eqb}
 use Rattle.registers.specs.Page.{addressOf}
 use Rattle.device.specs.declared.Device.{Device}
 use Rattle.device.specs.declared.Event.{Event}
-use Rattle.device.specs.declared.Event.the-variants.{Write, Read, Send, Receive, Convert, Open, PowerOn}
+use Rattle.device.specs.declared.Event.the-variants.{Write, Read, Send, Receive, Convert, Open, PowerOn, ConvertSecond, OpenSecond}
 use Rattle.device.specs.declared.Asked.{Asked}
 use Rattle.device.specs.declared.Asked.the-variants.{Put, Get, Point, Respond, Nothing}
 use Rattle.device.specs.Bus.{alertResponse, atOf}
@@ -34,3 +34,5 @@ asked-done d (Receive address) =
 asked-done d (Convert local high low) = refl
 asked-done d (Open local) = refl
 asked-done d PowerOn = refl
+asked-done d (ConvertSecond local high low) = refl
+asked-done d (OpenSecond local) = refl

@@ -29,7 +29,7 @@ use Rattle.conversion.proofs.Bounds.{count-bound, live-bound}
 use Rattle.device.specs.declared.Device.{Device}
 use Rattle.device.specs.declared.Outcome.{Outcome}
 use Rattle.device.specs.declared.Event.{Event}
-use Rattle.device.specs.declared.Event.the-variants.{Write, Read, Send, Receive, Convert, Open, PowerOn}
+use Rattle.device.specs.declared.Event.the-variants.{Write, Read, Send, Receive, Convert, Open, PowerOn, ConvertSecond, OpenSecond}
 use Rattle.device.specs.Bus.{standbyOf, pointedOf, maskedOf, storedOf, storedIn, firedOf, putOf, readOutOf, statusClearedOf}
 use Rattle.device.specs.Bus.{latestLowOf, lowKeptOf, lowLetGoOf}
 use Rattle.device.specs.Bus.{afterReadOf, getOf, pointOf, respondsOf, respondOf, takesOf, convertedOf, senseOf, poweredOf, alertResponse, atOf}
@@ -324,6 +324,8 @@ module _ {d : Device} (r : Ranged d) where
   event-ranged (Convert local high low) = sense-ranged local (readingOf (d .settings) high low) false (held-scale _)
   event-ranged (Open local) = sense-ranged local openReading true (lit< tt)
   event-ranged PowerOn = powered-ranged (d .variant)
+  event-ranged (ConvertSecond local high low) = sense-ranged local (readingOf (d .settings) high low) false (held-scale _)
+  event-ranged (OpenSecond local) = sense-ranged local openReading true (lit< tt)
 
 -- no event leaves the ranges
 pub kept : (d : Device) (e : Event) → rangedOf d ≡ true → rangedOf (effectOf d e .device) ≡ true

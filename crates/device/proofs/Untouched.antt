@@ -12,10 +12,10 @@ use Rattle.registers.specs.Page.{readableOf, writableOf, knownOf, oneShot, addr
 use Rattle.device.specs.declared.Device.{Device}
 use Rattle.device.specs.declared.Outcome.{Outcome}
 use Rattle.device.specs.declared.Event.{Event}
-use Rattle.device.specs.declared.Event.the-variants.{Write, Read, Send, Receive, Convert, Open, PowerOn}
+use Rattle.device.specs.declared.Event.the-variants.{Write, Read, Send, Receive, Convert, Open, PowerOn, ConvertSecond, OpenSecond}
 use Rattle.device.specs.Bus.{silentOf, pointedOf, maskedOf, storedOf, firedOf, putOf, statusClearedOf, getOf, pointOf}
 use Rattle.device.specs.Bus.{respondsOf, respondOf, takesOf, convertedOf, takingOf, senseOf, poweredOf, alertResponse, atOf}
-use Rattle.device.specs.Profile.{OnBus, AtAnother, OutsideProfile}
+use Rattle.device.specs.Profile.{OnBus, IsConversion, AtAnother, OutsideProfile}
 use Rattle.device.specs.Step.{effectOf}
 use Rattle.device.proofs.AfterRead.{read-ind}
 
@@ -30,6 +30,8 @@ elsewhere d (Receive a) h = rw (h .1, h .0)
 elsewhere d (Convert local high low) h = absurd h
 elsewhere d (Open local) h = absurd h
 elsewhere d PowerOn h = absurd h
+elsewhere d (ConvertSecond local high low) h = absurd h
+elsewhere d (OpenSecond local) h = absurd h
 
 -- ---- outside the profile
 
@@ -58,6 +60,8 @@ outside d (Receive a) h = rw (h .1) (at-silent d a (getOf d (d .pointer)) (get-o
 outside d (Convert local high low) h = absurd h
 outside d (Open local) h = absurd h
 outside d PowerOn h = absurd h
+outside d (ConvertSecond local high low) h = absurd h
+outside d (OpenSecond local) h = absurd h
 
 -- P9: an alert response that the device may not answer
 pub unanswered : (d : Device) → respondsOf d ≡ false → effectOf d (Receive alertResponse) ≡ silentOf d
@@ -122,6 +126,8 @@ module _ (d : Device) where
   bus-same (Convert local high low) h = absurd h
   bus-same (Open local) h = absurd h
   bus-same PowerOn h = absurd h
+  bus-same (ConvertSecond local high low) h = absurd h
+  bus-same (OpenSecond local) h = absurd h
 
 -- only conversions and power-on move readings, live byte, fault count and latches
 pub still : (d : Device) (e : Event) → OnBus e → effectOf d e .device .sensed ≡ d .sensed
@@ -129,10 +135,18 @@ still d e h = bus-same d e h .sensed
 
 -- ---- what a conversion that is not taken moves: nothing
 
-pub untaken : (d : Device) (local : ℕ) → takesOf d ≡ false
-    → ((high low : ℕ) → effectOf d (Convert local high low) ≡ silentOf d) × (effectOf d (Open local) ≡ silentOf d)
+-- P11, of kinds 05 and 06 and, by request c, of 08 and 09
+pub untaken : (d : Device) (e : Event) → IsConversion e → takesOf d ≡ false → effectOf d e ≡ silentOf d
 unfolding effectOf senseOf
-untaken d local h = (λ high low. rw h, rw h)
+untaken d (Write a w v) c h = absurd c
+untaken d (Read a r) c h = absurd c
+untaken d (Send a r) c h = absurd c
+untaken d (Receive a) c h = absurd c
+untaken d (Convert local high low) c h = rw h
+untaken d (Open local) c h = rw h
+untaken d PowerOn c h = absurd c
+untaken d (ConvertSecond local high low) c h = rw h
+untaken d (OpenSecond local) c h = rw h
 
 -- ---- the variant
 
@@ -153,3 +167,5 @@ same-variant d (Receive a) = bus-same d (Receive a) tt .variant
 same-variant d (Convert local high low) = sense-variant d local _ false
 same-variant d (Open local) = sense-variant d local _ true
 same-variant d PowerOn = refl
+same-variant d (ConvertSecond local high low) = sense-variant d local _ false
+same-variant d (OpenSecond local) = sense-variant d local _ true

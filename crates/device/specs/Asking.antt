@@ -11,7 +11,7 @@ use Rattle.conversion.specs.Conversion.{readingOf}
 use Rattle.device.specs.declared.Device.{Device}
 use Rattle.device.specs.declared.Outcome.{Outcome}
 use Rattle.device.specs.declared.Event.{Event}
-use Rattle.device.specs.declared.Event.the-variants.{Write, Read, Send, Receive, Convert, Open, PowerOn}
+use Rattle.device.specs.declared.Event.the-variants.{Write, Read, Send, Receive, Convert, Open, PowerOn, ConvertSecond, OpenSecond}
 use Rattle.device.specs.declared.Asked.{Asked}
 use Rattle.device.specs.declared.Asked.the-variants.{Put, Get, Point, Respond, Sense, Restart, Nothing}
 use Rattle.device.specs.Bus.{silentOf, putOf, getOf, pointOf, alertResponse, respondOf, senseOf, poweredOf}
@@ -32,6 +32,8 @@ askedOf d (Receive address) = cond (eqb address alertResponse) Respond (askedAt 
 askedOf d (Convert local high low) = askedReading local (readingOf (d .settings) high low) false
 askedOf d (Open local) = askedReading local openReading true
 askedOf d PowerOn = Restart
+askedOf d (ConvertSecond local high low) = askedReading local (readingOf (d .settings) high low) false
+askedOf d (OpenSecond local) = askedReading local openReading true
 
 unfoldable pub doneOf : Device → Asked → Outcome
 doneOf d (Put w v) = putOf d w v

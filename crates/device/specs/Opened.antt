@@ -5,7 +5,7 @@ use Rattle.device.specs.Pins.{comparatorOf, watchedOf, alertOf, tcritOf,
 use Rattle.device.specs.Bus.{maskedOf, storedOf, firedOf, putOf, statusReadOf, lowReadOf, readOnlyValueOf}
 use Rattle.device.specs.Bus.{valueOf, afterReadOf, getOf, pointOf, respondsOf, respondOf}
 use Rattle.device.specs.Bus.{takesOf, convertedOf, senseOf, poweredOf}
-use Rattle.device.specs.Ranges.{variantOf, masksOf, rangedOf, operandsOf}
+use Rattle.device.specs.Ranges.{variantOf, masksOf, rangedOf, operandsOf, secondOf}
 use Rattle.device.specs.Step.{effectOf, answerOf, stepOf}
 
 unfoldable pinsOpened : Unit {0}
@@ -25,7 +25,7 @@ unfolding takesOf convertedOf senseOf poweredOf
 convertsOpened = tt
 
 unfoldable rangesOpened : Unit {0}
-unfolding variantOf masksOf rangedOf operandsOf
+unfolding variantOf masksOf rangedOf operandsOf secondOf
 rangesOpened = tt
 
 unfoldable stepOpened : Unit {0}

@@ -6,7 +6,7 @@ use lib.Dec.{eqb}
 use Rattle.registers.specs.Page.{addressOf, readableOf, writableOf, knownOf}
 use Rattle.device.specs.declared.Device.{Device}
 use Rattle.device.specs.declared.Event.{Event}
-use Rattle.device.specs.declared.Event.the-variants.{Write, Read, Send, Receive, Convert, Open, PowerOn}
+use Rattle.device.specs.declared.Event.the-variants.{Write, Read, Send, Receive, Convert, Open, PowerOn, ConvertSecond, OpenSecond}
 use Rattle.device.specs.Bus.{alertResponse}
 
 -- kinds 01 to 04
@@ -18,8 +18,10 @@ OnBus (Receive a) = Unit {0}
 OnBus (Convert local high low) = ⊥
 OnBus (Open local) = ⊥
 OnBus PowerOn = ⊥
+OnBus (ConvertSecond local high low) = ⊥
+OnBus (OpenSecond local) = ⊥
 
--- kinds 05 and 06
+-- kinds 05 and 06; 08 and 09
 abbrev pub IsConversion : Event → Type 0
 IsConversion (Write a w v) = ⊥
 IsConversion (Read a r) = ⊥
@@ -28,6 +30,8 @@ IsConversion (Receive a) = ⊥
 IsConversion (Convert local high low) = Unit {0}
 IsConversion (Open local) = Unit {0}
 IsConversion PowerOn = ⊥
+IsConversion (ConvertSecond local high low) = Unit {0}
+IsConversion (OpenSecond local) = Unit {0}
 
 -- P10: a bus event at another address, the alert response apart
 abbrev pub AtAnother : Device → Event → Type 0
@@ -38,6 +42,8 @@ AtAnother d (Receive a) = (eqb a (addressOf (d .variant)) ≡ false) × (eqb a a
 AtAnother d (Convert local high low) = ⊥
 AtAnother d (Open local) = ⊥
 AtAnother d PowerOn = ⊥
+AtAnother d (ConvertSecond local high low) = ⊥
+AtAnother d (OpenSecond local) = ⊥
 
 -- at the right address or a wrong one: P10, a write outside W, a read outside R, a send outside both, a receive while the pointer is outside R
 abbrev pub OutsideProfile : Device → Event → Type 0
@@ -48,3 +54,5 @@ OutsideProfile d (Receive a) = (readableOf (d .pointer) ≡ false) × (eqb a ale
 OutsideProfile d (Convert local high low) = ⊥
 OutsideProfile d (Open local) = ⊥
 OutsideProfile d PowerOn = ⊥
+OutsideProfile d (ConvertSecond local high low) = ⊥
+OutsideProfile d (OpenSecond local) = ⊥

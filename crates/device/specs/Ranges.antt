@@ -1,8 +1,8 @@
 -- A state's ranges, of the device's part, and an event's operands. No other test is made. The variant is a test apart, because a
--- capture's reader makes it only once two header bytes are taken.
+-- capture's reader makes it only once the device's variant byte is taken.
 -- Assumes nothing.
 use Prim.Native.Nat.{ℕ, _%_}
-use mathlib.Core.Bool.{Bool, true, not, _||_, _&&_}
+use mathlib.Core.Bool.{Bool, true, false, not, _||_, _&&_}
 use mathlib.Core.List.{List, [], _∷_, map}
 use lib.IntN.{pos, negℤ}
 use lib.Signed.{leZ}
@@ -11,7 +11,7 @@ use lib.Bits.{bitAnd}
 use Rattle.registers.specs.Page.{Settable, settable, settingOf, knownOf}
 use Rattle.device.specs.declared.Device.{Device}
 use Rattle.device.specs.declared.Event.{Event}
-use Rattle.device.specs.declared.Event.the-variants.{Write, Read, Send, Receive, Convert, Open, PowerOn}
+use Rattle.device.specs.declared.Event.the-variants.{Write, Read, Send, Receive, Convert, Open, PowerOn, ConvertSecond, OpenSecond}
 use Rattle.device.specs.Bus.{standbyOf}
 
 abbrev pub allTrue : List Bool → Bool
@@ -65,3 +65,18 @@ operandsOf (Receive address) = leb address 0x7F
 operandsOf (Convert local high low) = eqb (low % 32) 0
 operandsOf (Open local) = true
 operandsOf PowerOn = true
+-- request c: 08 and 09 have the operands of 05 and 06
+operandsOf (ConvertSecond local high low) = eqb (low % 32) 0
+operandsOf (OpenSecond local) = true
+
+-- request c: kinds 08 and 09, the conversions of a bus's second device
+unfoldable pub secondOf : Event → Bool
+secondOf (Write address w v) = false
+secondOf (Read address r) = false
+secondOf (Send address r) = false
+secondOf (Receive address) = false
+secondOf (Convert local high low) = false
+secondOf (Open local) = false
+secondOf PowerOn = false
+secondOf (ConvertSecond local high low) = true
+secondOf (OpenSecond local) = true

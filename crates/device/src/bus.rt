@@ -16,7 +16,7 @@ use registers::Position;
 use registers::bits;
 use temperature::Reading;
 
-const ALERT_RESPONSE: u8 = 0x0C;
+pub const ALERT_RESPONSE: u8 = 0x0C;
 
 pub(crate) fn silent(d: Device) -> Outcome
     ensures { λ r. ⌜ r ≡ silentOf d ⌝ }
@@ -279,12 +279,12 @@ pub(crate) fn asked(d: Device, e: Event) -> Asked
         } else {
             at(d, address, Asked::Get(d.pointer))
         },
-        Event::Convert(local, high, low) => {
+        Event::Convert(local, high, low) | Event::ConvertSecond(local, high, low) => {
             let s = d.settings;
             let remote = conversion::reading(s, high, low);
             Asked::Sense(local, remote.eighths, remote.held, false)
         }
-        Event::Open(local) => {
+        Event::Open(local) | Event::OpenSecond(local) => {
             let remote = temperature::open_reading();
             Asked::Sense(local, remote.eighths, remote.held, true)
         }

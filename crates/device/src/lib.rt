@@ -22,7 +22,7 @@ pub struct Device {
     pub lowkept: bool,
 }
 
-// Address, register and value; local byte, remote high and low byte: raw, as in a record.
+// Address, register and value; local byte, remote high and low byte: raw, as in a record. The last two are conversions of a bus's second device.
 pub enum Event {
     Write(u8, u8, u8),
     Read(u8, u8),
@@ -31,6 +31,8 @@ pub enum Event {
     Convert(u8, u8, u8),
     Open(u8),
     PowerOn,
+    ConvertSecond(u8, u8, u8),
+    OpenSecond(u8),
 }
 
 // What an event asks of the device at hand. Sense: local byte, remote reading in eighths and whether it was held (a struct in the enum is slower), diode open.
@@ -111,12 +113,15 @@ fn refused(d: Device, code: u8) -> Stepped
     }
 }
 
-// One event: 8 for a device out of its ranges, then 4 for an operand outside the table, else 0.
+// One event: 8 for a device out of its ranges, then 3 for a conversion of a second device, then 4 for an operand outside the table, else 0.
 pub fn step(d: Device, e: Event) -> Stepped
     ensures { λ r. ⌜ r ≡ stepOf d e ⌝ }
 {
     if !(ranges::variant(d.variant) & ranges::ranged(d)) {
         return refused(d, 8);
+    }
+    if ranges::second(e) {
+        return refused(d, 3);
     }
     if !ranges::operands(e) {
         return refused(d, 4);

@@ -2,7 +2,7 @@
 ghost use mathlib.Core.Path.{_≡_};
 ghost use lib.Dec.{eqb};
 ghost use lib.Bits.{bitAnd};
-ghost use Rattle.device.specs.Ranges.{allTrue, variantOf, masksOf, rangedOf, operandsOf};
+ghost use Rattle.device.specs.Ranges.{allTrue, variantOf, masksOf, rangedOf, operandsOf, secondOf};
 use super::Device;
 use super::Event;
 use registers::bits;
@@ -86,5 +86,24 @@ pub fn operands(e: Event) -> bool
         Event::Convert(_, _, low) => low % 32 == 0,
         Event::Open(_) => true,
         Event::PowerOn => true,
+        Event::ConvertSecond(_, _, low) => low % 32 == 0,
+        Event::OpenSecond(_) => true,
+    }
+}
+
+// Kinds 08 and 09.
+pub fn second(e: Event) -> bool
+    ensures { λ r. ⌜ r ≡ secondOf e ⌝ }
+{
+    match e {
+        Event::Write(_, _, _) => false,
+        Event::Read(_, _) => false,
+        Event::Send(_, _) => false,
+        Event::Receive(_) => false,
+        Event::Convert(_, _, _) => false,
+        Event::Open(_) => false,
+        Event::PowerOn => false,
+        Event::ConvertSecond(_, _, _) => true,
+        Event::OpenSecond(_) => true,
     }
 }

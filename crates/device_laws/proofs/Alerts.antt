@@ -25,7 +25,7 @@ use Rattle.device.specs.declared.Event.the-variants.{Read, Receive}
 use Rattle.device.specs.Pins.{comparatorOf, watchedOf, alertOf, tcritOf, pinsOf, firstOf}
 use Rattle.device.specs.Bus.{maskedOf, statusReadOf, readOnlyValueOf, valueOf, afterReadOf, getOf, respondsOf, respondOf}
 use Rattle.device.specs.Step.{effectOf, answerOf, stepOf}
-use Rattle.device.specs.Ranges.{operandsOf}
+use Rattle.device.specs.Ranges.{operandsOf, secondOf}
 use Rattle.device_laws.specs.Codes.{Ready}
 use Rattle.device.proofs.Steps.{step-effect}
 use Rattle.device_laws.specs.Alerts.{anyOfSix, Responds, StatusRead, FirstByte}
@@ -232,6 +232,6 @@ answer-bits o =
       rest = within-five a c (o .acknowledged) (o .taken) (o .held);
     }
 
-pub first-byte : (d : Device) (e : Event) → Ready d → operandsOf e ≡ true
+pub first-byte : (d : Device) (e : Event) → Ready d → secondOf e ≡ false → operandsOf e ≡ true
     → FirstByte (stepOf d e .device) (effectOf d e .acknowledged) (effectOf d e .taken) (effectOf d e .held) (stepOf d e .first)
-first-byte d e ready operands = rw (step-effect d e (ready .variant) (ready .ranges) operands) (answer-bits (effectOf d e))
+first-byte d e ready own operands = rw (step-effect d e (ready .variant) (ready .ranges) own operands) (answer-bits (effectOf d e))

@@ -1,5 +1,5 @@
 -- P12: `alike-event`, two devices alike answer every event alike but for a read of 04 or BF, and are alike after it; `alike-run`, so do
--- they over a row of events.
+-- they over a row of events; `alike-second`, they stay alike over a row of events done at a second device (request c).
 -- Assumes nothing.
 use mathlib.Core.Path.{_≡_, refl, sym, ap, subst, _∙_}
 use mathlib.Core.Bool.{Bool, true, false, not, cond, _||_, _&&_}
@@ -21,18 +21,20 @@ use Rattle.device.specs.declared.Pins.{Pins}
 use Rattle.device.specs.declared.Outcome.{Outcome}
 use Rattle.device.specs.declared.Stepped.{Stepped}
 use Rattle.device.specs.declared.Event.{Event}
-use Rattle.device.specs.declared.Event.the-variants.{Write, Read, Send, Receive, Convert, Open, PowerOn}
+use Rattle.device.specs.declared.Event.the-variants.{Write, Read, Send, Receive, Convert, Open, PowerOn, ConvertSecond, OpenSecond}
 use Rattle.device.specs.Pins.{comparatorOf, watchedOf, alertOf, tcritOf, pinsOf}
 use Rattle.device.specs.Bus.{silentOf, answeredOf, setUpOf, standbyOf, pointedOf, maskedOf, storedOf, storedIn, firedOf, writtenOf, putOf}
 use Rattle.device.specs.Bus.{readOutOf, statusClearedOf, statusReadOf, latestLowOf, lowKeptOf, lowLetGoOf, lowReadOf, afterReadOf}
 use Rattle.device.specs.Bus.{readOnlyValueOf, valueOf, getOf, pointOf, respondsOf, respondOf}
 use Rattle.device.specs.Bus.{takesOf, gatheredOf, convertedOf, senseOf, alertResponse, atOf}
 use Rattle.device_laws.specs.Moves.{ownOf}
+use Rattle.device_laws.specs.Conversions.{afterAll}
 use Rattle.device_laws.specs.Alike.{blanked, blankOf, Alike, readsThem, AnswerAlike, shownReply, shownReplies}
 use Rattle.device.specs.Run.{Reply, ok, afterOf}
-use Rattle.device.specs.Ranges.{variantOf, rangedOf, operandsOf}
+use Rattle.device.specs.Ranges.{variantOf, rangedOf, operandsOf, secondOf}
 use Rattle.device.specs.Step.{effectOf, answerOf, stepOf, steppedOf, refusedOf}
 use Rattle.device_laws.proofs.Changes.{setting-other, setting-mapped, changed-mapped, changed-same, changed-other}
+use Rattle.device_laws.proofs.Codes.{second-refused}
 use Rattle.device.proofs.Steps.{step-effect, ranged-after, variant-after}
 
 -- ---- the fourteen bytes
@@ -306,6 +308,8 @@ module _ (d : Device) (t : List ℕ) (h : blanked (d .settings) ≡ blanked t) w
   event-like (Convert local high low) = sense-like local _ _ false (reading-alike (d .settings) t h high low)
   event-like (Open local) = sense-like local openReading openReading true refl
   event-like PowerOn = record { acknowledged = refl; taken = refl; held = refl; byte = λ _. refl; device = refl }
+  event-like (ConvertSecond local high low) = sense-like local _ _ false (reading-alike (d .settings) t h high low)
+  event-like (OpenSecond local) = sense-like local openReading openReading true refl
 
   reads-other : (e : Event) → readsThem d e ≡ readsThem other e
   reads-other (Write a w v) = refl
@@ -315,6 +319,8 @@ module _ (d : Device) (t : List ℕ) (h : blanked (d .settings) ≡ blanked t) w
   reads-other (Convert local high low) = refl
   reads-other (Open local) = refl
   reads-other PowerOn = refl
+  reads-other (ConvertSecond local high low) = refl
+  reads-other (OpenSecond local) = refl
 
 -- ---- two devices alike
 
@@ -376,15 +382,16 @@ reply-alike d e event a =
     seconds true x y h = refl
     seconds false x y h = h refl
 
-refused-reply : (k m : Bool) (d e : Device) → shown k (refusedOf d 4) ≡ shown m (refusedOf e 4)
-refused-reply true true d e = refl
-refused-reply true false d e = refl
-refused-reply false true d e = refl
-refused-reply false false d e = refl
+refused-reply : (k m : Bool) (d e : Device) (code : ℕ) → shown k (refusedOf d code) ≡ shown m (refusedOf e code)
+refused-reply true true d e code = refl
+refused-reply true false d e code = refl
+refused-reply false true d e code = refl
+refused-reply false false d e code = refl
 
-step-refused : (d : Device) (event : Event) → variantOf (d .variant) ≡ true → rangedOf d ≡ true → operandsOf event ≡ false → stepOf d event ≡ refusedOf d 4
+step-operand : (d : Device) (event : Event) → variantOf (d .variant) ≡ true → rangedOf d ≡ true → secondOf event ≡ false → operandsOf event ≡ false
+    → stepOf d event ≡ refusedOf d 4
 unfolding stepOf
-step-refused d event variant ranged operands = rw (variant, ranged, operands)
+step-operand d event variant ranged own operands = rw (variant, ranged, own, operands)
 
 module _ (d e : Device) (event : Event) (a : Alike d e) (variant : variantOf (d .variant) ≡ true) (rd : rangedOf d ≡ true) (re : rangedOf e ≡ true) where
   variant-of-second : variantOf (e .variant) ≡ true
@@ -394,24 +401,28 @@ module _ (d e : Device) (event : Event) (a : Alike d e) (variant : variantOf (d 
   abbrev StepAlike : Type 0
   StepAlike = (shownReply d event ≡ shownReply e event) × Alike (stepOf d event .device) (stepOf e event .device)
 
-  admitted : operandsOf event ≡ true → StepAlike
-  admitted h =
-      let p = step-effect d event variant rd h in
-      let q = step-effect e event variant-of-second re h in (
+  admitted : secondOf event ≡ false → operandsOf event ≡ true → StepAlike
+  admitted own h =
+      let p = step-effect d event variant rd own h in
+      let q = step-effect e event variant-of-second re own h in (
         ap (shown (readsThem d event)) p ∙ reply-alike d e event a ∙ sym (ap (shown (readsThem e event)) q),
         ap (λ (s : Stepped). blankOf (s .device)) p ∙ alike-event d e event a .after ∙ sym (ap (λ (s : Stepped). blankOf (s .device)) q),
       )
 
-  refused : operandsOf event ≡ false → StepAlike
-  refused h =
-      let p = step-refused d event variant rd h in
-      let q = step-refused e event variant-of-second re h in (
-        ap (shown (readsThem d event)) p ∙ refused-reply (readsThem d event) (readsThem e event) d e ∙ sym (ap (shown (readsThem e event)) q),
-        ap (λ (s : Stepped). blankOf (s .device)) p ∙ a ∙ sym (ap (λ (s : Stepped). blankOf (s .device)) q),
-      )
+  refused : (code : ℕ) → stepOf d event ≡ refusedOf d code → stepOf e event ≡ refusedOf e code → StepAlike
+  refused code p q = (
+    ap (shown (readsThem d event)) p ∙ refused-reply (readsThem d event) (readsThem e event) d e code ∙ sym (ap (shown (readsThem e event)) q),
+    ap (λ (s : Stepped). blankOf (s .device)) p ∙ a ∙ sym (ap (λ (s : Stepped). blankOf (s .device)) q),
+  )
 
   step-alike : StepAlike
-  step-alike = by-test (operandsOf event) admitted refused
+  step-alike =
+      by-test (secondOf event)
+      (λ s. refused 3
+      (second-refused d event (record { variant = variant; ranges = rd }) s)
+      (second-refused e event (record { variant = variant-of-second; ranges = re }) s))
+      (λ s. by-test (operandsOf event) (admitted s)
+      (λ o. refused 4 (step-operand d event variant rd s o) (step-operand e event variant-of-second re s o)))
 
 pub alike-run : (events : List Event) (d e : Device) → Alike d e → variantOf (d .variant) ≡ true → rangedOf d ≡ true → rangedOf e ≡ true
     → (shownReplies d events ≡ shownReplies e events) × Alike (afterOf d events) (afterOf e events)
@@ -422,3 +433,8 @@ alike-run (x ∷ xs) d e a v rd re =
     let e' = stepOf e x .device in
     let rest = alike-run xs d' e' (s .1) (variant-after d x v) (ranged-after d x rd) (ranged-after e x re) in
     (ap (λ (r : Reply). r ∷ shownReplies d' xs) (s .0) ∙ ap (λ (l : List Reply). shownReply e x ∷ l) (rest .0), rest .1)
+
+-- request c: kinds 08 and 09 among them
+pub alike-second : (events : List Event) (d e : Device) → Alike d e → Alike (afterAll d events) (afterAll e events)
+alike-second [] d e a = a
+alike-second (x ∷ xs) d e a = alike-second xs (effectOf d x .device) (effectOf e x .device) (alike-event d e x a .after)

@@ -1,14 +1,16 @@
--- Request b against the definitions before it: `device-as-before`, the device after every event is the one before; `effect-as-before`, so are
--- acknowledged, taken and the byte read; `first-as-before`, D4 apart the first answer byte too; `step-as-before`, `run-as-before`: of every step, and
--- over every row of events, refused ones too, the codes, the answer bytes with D4 cleared and the end device are those before.
+-- Request b against the definitions before it, of every event of that time, kinds 01 to 07: `device-as-before`, the device after it is the one
+-- before; `effect-as-before`, so are acknowledged, taken and the byte read; `first-as-before`, D4 apart the first answer byte too; `step-as-before`,
+-- `run-as-before`: of every step, and over every row of such events, refused ones too, the codes, the answer bytes with D4 cleared and the end device
+-- are those before.
 -- Assumes nothing.
-use mathlib.Core.Path.{_≡_, refl, ap, _∙_}
+use mathlib.Core.Path.{_≡_, refl, sym, ap, _∙_}
 use mathlib.Core.Bool.{Bool, true, false, cond, _&&_}
 use mathlib.Core.List.{List, [], _∷_, map}
 use Prim.Native.Nat.{ℕ, _^_, _<_}
 use lib.IntN.{ℤ}
 use lib.Dec.{eqb, lit<}
 use lib.Bits.{bitOr, or-lt}
+use Rattle.laws.proofs.Choices.{clash}
 use Rattle.laws.proofs.Tables.{agree}
 use Rattle.temperature.specs.declared.Reading.{Reading}
 use Rattle.temperature.proofs.Held.{held-eighths}
@@ -19,10 +21,10 @@ use Rattle.device.specs.declared.Device.{Device}
 use Rattle.device.specs.declared.Outcome.{Outcome}
 use Rattle.device.specs.declared.Stepped.{Stepped}
 use Rattle.device.specs.declared.Event.{Event}
-use Rattle.device.specs.declared.Event.the-variants.{Write, Read, Send, Receive, Convert, Open, PowerOn}
+use Rattle.device.specs.declared.Event.the-variants.{Write, Read, Send, Receive, Convert, Open, PowerOn, ConvertSecond, OpenSecond}
 use Rattle.device.specs.Pins.{pinsOf, firstOf}
 use Rattle.device.specs.Bus.{silentOf, putOf, getOf, pointOf, respondsOf, respondOf, takesOf, takingOf, senseOf, alertResponse, atOf}
-use Rattle.device.specs.Ranges.{variantOf, rangedOf, operandsOf}
+use Rattle.device.specs.Ranges.{variantOf, rangedOf, operandsOf, secondOf}
 use Rattle.device.specs.Step.{effectOf, answerOf, refusedOf, steppedOf, stepOf}
 use Rattle.device.specs.Run.{Reply, repliesOf, afterOf}
 use Rattle.device_laws.specs.Moves.{heldBy}
@@ -68,24 +70,26 @@ module _ (d : Device) where
   unfolding senseOf before.senseOf
   sense-before local remote broken = forget-cond (takesOf d) (takingOf d local remote broken) (silentOf d)
 
-pub effect-as-before : (d : Device) (e : Event) → forget (effectOf d e) ≡ before.effectOf d e
-unfolding effectOf before.effectOf
-effect-as-before d (Write a w v) = at-before d a (putOf d w v) ∙ ap (before.atOf d a) (put-before d w v)
-effect-as-before d (Read a r) = at-before d a (getOf d r) ∙ ap (before.atOf d a) (get-before d r)
-effect-as-before d (Send a r) = at-before d a (pointOf d r) ∙ ap (before.atOf d a) (point-before d r)
-effect-as-before d (Receive a) =
+pub effect-as-before : (d : Device) (e : Event) → secondOf e ≡ false → forget (effectOf d e) ≡ before.effectOf d e
+unfolding effectOf before.effectOf secondOf
+effect-as-before d (Write a w v) own = at-before d a (putOf d w v) ∙ ap (before.atOf d a) (put-before d w v)
+effect-as-before d (Read a r) own = at-before d a (getOf d r) ∙ ap (before.atOf d a) (get-before d r)
+effect-as-before d (Send a r) own = at-before d a (pointOf d r) ∙ ap (before.atOf d a) (point-before d r)
+effect-as-before d (Receive a) own =
     let p = d .pointer in
     let response = eqb a alertResponse in
     forget-cond response (respondOf d) (atOf d a (getOf d p))
     ∙ ap (λ (o : before.Outcome). cond response o (forget (atOf d a (getOf d p)))) (respond-before d)
     ∙ ap (cond response (before.respondOf d)) (at-before d a (getOf d p) ∙ ap (before.atOf d a) (get-before d p))
-effect-as-before d (Convert local high low) =
+effect-as-before d (Convert local high low) own =
     sense-before d local _ false ∙ ap (λ (t : ℤ). before.senseOf d local t false) (reading-before (d .settings) high low)
-effect-as-before d (Open local) = sense-before d local _ true
-effect-as-before d PowerOn = refl
+effect-as-before d (Open local) own = sense-before d local _ true
+effect-as-before d PowerOn own = refl
+effect-as-before d (ConvertSecond local high low) own = clash (sym own)
+effect-as-before d (OpenSecond local) own = clash (sym own)
 
-pub device-as-before : (d : Device) (e : Event) → effectOf d e .device ≡ before.effectOf d e .device
-device-as-before d e = ap (λ (o : before.Outcome). o .device) (effect-as-before d e)
+pub device-as-before : (d : Device) (e : Event) → secondOf e ≡ false → effectOf d e .device ≡ before.effectOf d e .device
+device-as-before d e own = ap (λ (o : before.Outcome). o .device) (effect-as-before d e own)
 
 -- ---- the first answer byte
 
@@ -94,10 +98,11 @@ bits-before : (o : Outcome) → answerOf o ≡ bitOr (before.answerOf (forget o)
 unfolding answerOf firstOf before.answerOf before.firstOf
 bits-before o = refl
 
-pub first-as-before : (d : Device) (e : Event) → answerOf (effectOf d e) ≡ bitOr (before.answerOf (before.effectOf d e)) (bitOf (heldBy d e) 0x10)
-first-as-before d e =
+pub first-as-before : (d : Device) (e : Event) → secondOf e ≡ false
+    → answerOf (effectOf d e) ≡ bitOr (before.answerOf (before.effectOf d e)) (bitOf (heldBy d e) 0x10)
+first-as-before d e own =
     bits-before (effectOf d e)
-    ∙ ap (λ (o : before.Outcome). bitOr (before.answerOf o) (bitOf (effectOf d e .held) 0x10)) (effect-as-before d e)
+    ∙ ap (λ (o : before.Outcome). bitOr (before.answerOf o) (bitOf (effectOf d e .held) 0x10)) (effect-as-before d e own)
     ∙ ap (λ (t : Bool). bitOr (before.answerOf (before.effectOf d e)) (bitOf t 0x10)) (held-exactly d e)
 
 -- ---- steps, one and in a row
@@ -115,35 +120,35 @@ joined-cleared : (t : Bool) (x : ℕ) → x < 0x10 → cleared (bitOr x (bitOf t
 joined-cleared true = agree (λ x. cleared (bitOr x 0x10)) (λ x. x) 0x10 refl
 joined-cleared false = agree (λ x. cleared (bitOr x 0)) (λ x. x) 0x10 refl
 
-first-cleared : (d : Device) (e : Event) → cleared (answerOf (effectOf d e)) ≡ before.answerOf (before.effectOf d e)
-first-cleared d e =
-    ap cleared (first-as-before d e) ∙ joined-cleared (heldBy d e) (before.answerOf (before.effectOf d e)) (small-before (before.effectOf d e))
+first-cleared : (d : Device) (e : Event) → secondOf e ≡ false → cleared (answerOf (effectOf d e)) ≡ before.answerOf (before.effectOf d e)
+first-cleared d e own =
+    ap cleared (first-as-before d e own) ∙ joined-cleared (heldBy d e) (before.answerOf (before.effectOf d e)) (small-before (before.effectOf d e))
 
-stepped-before : (d : Device) (e : Event) → stepWithout (steppedOf (effectOf d e)) ≡ before.steppedOf (before.effectOf d e)
-stepped-before d e =
+stepped-before : (d : Device) (e : Event) → secondOf e ≡ false → stepWithout (steppedOf (effectOf d e)) ≡ before.steppedOf (before.effectOf d e)
+stepped-before d e own =
     let first = before.answerOf (before.effectOf d e) in
-    ap (λ (x : ℕ). record { code = 0; first = x; second = effectOf d e .byte; device = effectOf d e .device }) (first-cleared d e)
-    ∙ ap (λ (o : before.Outcome). record { code = 0; first = first; second = o .byte; device = o .device }) (effect-as-before d e)
+    ap (λ (x : ℕ). record { code = 0; first = x; second = effectOf d e .byte; device = effectOf d e .device }) (first-cleared d e own)
+    ∙ ap (λ (o : before.Outcome). record { code = 0; first = first; second = o .byte; device = o .device }) (effect-as-before d e own)
 
-pub step-as-before : (d : Device) (e : Event) → stepWithout (stepOf d e) ≡ before.stepOf d e
+pub step-as-before : (d : Device) (e : Event) → secondOf e ≡ false → stepWithout (stepOf d e) ≡ before.stepOf d e
 unfolding stepOf before.stepOf
-step-as-before d e = split (variantOf (d .variant) && rangedOf d) (operandsOf e)
+step-as-before d e own = rw own (split (variantOf (d .variant) && rangedOf d) (operandsOf e))
   where
     split : (s t : Bool) → stepWithout (cond s (cond t (steppedOf (effectOf d e)) (refusedOf d 4)) (refusedOf d 8))
         ≡ cond s (cond t (before.steppedOf (before.effectOf d e)) (refusedOf d 4)) (refusedOf d 8)
-    split true true = stepped-before d e
+    split true true = stepped-before d e own
     split true false = refl
     split false t = refl
 
 abbrev replyIn : Stepped → Reply
 replyIn s = record { code = s .code; first = s .first; second = s .second }
 
-pub run-as-before : (d : Device) (es : List Event)
+pub run-as-before : (d : Device) (es : List Event) → before.OfThatTime es
     → (map replyWithout (repliesOf d es) ≡ before.repliesOf d es) × (afterOf d es ≡ before.afterOf d es)
-run-as-before d [] = (refl, refl)
-run-as-before d (e ∷ es) =
-    let one = step-as-before d e in
-    let rest = run-as-before (stepOf d e .device) es in
+run-as-before d [] then = (refl, refl)
+run-as-before d (e ∷ es) then =
+    let one = step-as-before d e (then .0) in
+    let rest = run-as-before (stepOf d e .device) es (then .1) in
     let on = ap (λ (s : Stepped). s .device) one in (
       ap (λ (r : Reply). r ∷ map replyWithout (repliesOf (stepOf d e .device) es)) (ap replyIn one)
           ∙ ap (λ (rs : List Reply). replyIn (before.stepOf d e) ∷ rs) (rest .0 ∙ ap (λ (x : Device). before.repliesOf x es) on),

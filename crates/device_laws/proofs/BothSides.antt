@@ -17,7 +17,7 @@ use Rattle.temperature.specs.Temperature.{degreesOf, eighthsOf, clearedOf}
 use Rattle.registers.specs.Page.{settingOf}
 use Rattle.conversion.specs.Conversion.{latchOf, sensedOf}
 use Rattle.device.specs.declared.Event.{Event}
-use Rattle.device.specs.declared.Event.the-variants.{Write, Read, Send, Receive, Convert, Open, PowerOn}
+use Rattle.device.specs.declared.Event.the-variants.{Write, Read, Send, Receive, Convert, Open, PowerOn, ConvertSecond, OpenSecond}
 use Rattle.device.specs.Bus.{takesOf, convertedOf, senseOf, poweredOf}
 use Rattle.device.specs.Opened.{deviceOpened}
 use Rattle.device.specs.Step.{effectOf, stepOf}
@@ -27,6 +27,7 @@ use Rattle.device.specs.Profile.{IsConversion}
 use Rattle.device.specs.Run.{repliesOf, afterOf}
 use Rattle.device_laws.specs.Exchange.{eventsIn, repliesIn}
 use Rattle.device_laws.specs.BothSides.{heard, Line, table, Conversions, BothSides}
+use Rattle.device_laws.specs.Conversions.{afterAll}
 use Rattle.device.proofs.Steps.{step-ind}
 
 ten-lines : map (λ (l : Line). repliesOf (afterOf (poweredOf 1) (l .scene)) (eventsIn (l .exchanges))) table
@@ -91,11 +92,22 @@ effect-stuck d (Receive a) c h = absurd c
 effect-stuck d (Convert local high low) c h = sense-stuck d local _ false h
 effect-stuck d (Open local) c h = sense-stuck d local _ true h
 effect-stuck d PowerOn c h = absurd c
+effect-stuck d (ConvertSecond local high low) c h = sense-stuck d local _ false h
+effect-stuck d (OpenSecond local) c h = sense-stuck d local _ true h
 
 run-stuck : (d : Device) (es : List Event) → Conversions es → Stuck d → afterOf d es .sensed .llatch ≡ true
 run-stuck d [] c h = h .latch
 run-stuck d (e ∷ es) c h = run-stuck (stepOf d e .device) es (c .1) (step-ind Stuck d e h (effect-stuck d e (c .0) h))
 
+effects-stuck : (d : Device) (es : List Event) → Conversions es → Stuck d → afterAll d es .sensed .llatch ≡ true
+effects-stuck d [] c h = h .latch
+effects-stuck d (e ∷ es) c h = effects-stuck (effectOf d e .device) es (c .1) (effect-stuck d e (c .0) h)
+
 pub both-sides : BothSides
 both-sides =
-    record { scenes = all-heard; lines = ten-lines; never = λ d latch crit less es c. run-stuck d es c (record { latch = latch; crit = crit; less = less }) }
+    record {
+      scenes = all-heard;
+      lines = ten-lines;
+      never = λ d latch crit less es c. run-stuck d es c (record { latch = latch; crit = crit; less = less });
+      never-second = λ d latch crit less es c. effects-stuck d es c (record { latch = latch; crit = crit; less = less });
+    }

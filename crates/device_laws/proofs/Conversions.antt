@@ -1,5 +1,5 @@
--- `converted`: what a taken conversion does. `live-depends`: what the live byte depends on.
--- `count-in-a-row`: the fault count over faults in a row (P4).
+-- `converted`: what a taken conversion does, one of a second device too. `live-depends`: what the live byte depends on.
+-- `count-in-a-row`: the fault count over faults in a row (P4). Request c: `second-alike` and `second-open-alike`, kinds 08 and 09 are 05 and 06.
 -- Assumes nothing.
 use mathlib.Core.Path.{_≡_, refl, _∙_}
 use mathlib.Core.Bool.{Bool, true}
@@ -17,13 +17,25 @@ use Rattle.device_laws.proofs.AfterConversion.{after-conversion, same-l
 use Rattle.device_laws.proofs.Bits.{has-or}
 use Rattle.device.specs.declared.Device.{Device}
 use Rattle.device.specs.declared.Event.{Event}
-use Rattle.device.specs.declared.Event.the-variants.{Write, Read, Send, Receive, Convert, Open, PowerOn}
+use Rattle.device.specs.declared.Event.the-variants.{Write, Read, Send, Receive, Convert, Open, PowerOn, ConvertSecond, OpenSecond}
 use Rattle.device.specs.Bus.{takesOf, convertedOf, takingOf, senseOf}
 use Rattle.device.specs.Profile.{IsConversion}
 use Rattle.device.specs.Step.{effectOf}
 use Rattle.device_laws.specs.Moves.{sumAt, heldBy}
 use Rattle.device_laws.specs.Conversions.{localIn, openIn, readingIn, Converted, afterAll, Fault, Faults}
 use Rattle.device_laws.proofs.Moves.{held-exactly}
+
+-- ---- request c: of the device at hand
+
+pub second-alike : (d : Device) (local high low : ℕ) → effectOf d (ConvertSecond local high low) ≡ effectOf d (Convert local high low)
+unfolding effectOf
+second-alike d local high low = refl
+
+pub second-open-alike : (d : Device) (local : ℕ) → effectOf d (OpenSecond local) ≡ effectOf d (Open local)
+unfolding effectOf
+second-open-alike d local = refl
+
+-- ---- a taken conversion
 
 -- the reading of a conversion, and whether it was held; of any other event it is not asked
 abbrev remoteIn : Device → Event → Reading
@@ -34,6 +46,8 @@ remoteIn d (Receive a) = openReading
 remoteIn d (Convert local high low) = readingOf (d .settings) high low
 remoteIn d (Open local) = openReading
 remoteIn d PowerOn = openReading
+remoteIn d (ConvertSecond local high low) = readingOf (d .settings) high low
+remoteIn d (OpenSecond local) = openReading
 
 reading-in : (d : Device) (e : Event) → IsConversion e → remoteIn d e .eighths ≡ readingIn d e
 unfolding readingOf sumOf
@@ -44,6 +58,8 @@ reading-in d (Receive a) c = absurd c
 reading-in d (Convert local high low) c = held-eighths (sumAt d high low)
 reading-in d (Open local) c = refl
 reading-in d PowerOn c = absurd c
+reading-in d (ConvertSecond local high low) c = held-eighths (sumAt d high low)
+reading-in d (OpenSecond local) c = refl
 
 -- any conversion, by its operands
 sensed-in : (d : Device) (e : Event) → IsConversion e → effectOf d e ≡ senseOf d (localIn e) (remoteIn d e) (openIn e)
@@ -55,6 +71,8 @@ sensed-in d (Receive a) c = absurd c
 sensed-in d (Convert local high low) c = refl
 sensed-in d (Open local) c = refl
 sensed-in d PowerOn c = absurd c
+sensed-in d (ConvertSecond local high low) c = refl
+sensed-in d (OpenSecond local) c = refl
 
 sense-takes : (d : Device) (local : ℕ) (remote : Reading) (diodeOpen : Bool) → senseOf d local remote diodeOpen .taken ≡ true
     → senseOf d local remote diodeOpen ≡ takingOf d local remote diodeOpen

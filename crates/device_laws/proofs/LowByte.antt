@@ -1,7 +1,8 @@
 -- Request a. `untorn`: after a read of 01, whatever comes between but another read of 01 or 10 or power-on, a read of 10 gives the low byte of
--- the reading whose high byte was read. `unmoved`, and `unmoved-between` of a row: nothing else keeps a low byte or lets one go. `latest`: with
--- nothing kept, 10 is the low byte of the latest reading. `by-pointer`: a receive, the alert response apart, is a read of the register at the pointer.
--- `acknowledged-reads`: what these call a read is acknowledged.
+-- the reading whose high byte was read; `untorn-second`: so it does at a second device, whose conversions are of kinds 08 and 09 (request c).
+-- `unmoved`, and `unmoved-between` of a row: nothing else keeps a low byte or lets one go. `latest`: with nothing kept, 10 is the low byte of the latest
+-- reading. `by-pointer`: a receive, the alert response apart, is a read of the register at the pointer. `acknowledged-reads`: what these call a read is
+-- acknowledged.
 -- Assumes nothing.
 use mathlib.Core.Path.{_≡_, refl, sym, ap, _∙_}
 use mathlib.Core.Bool.{Bool, true, false, cond, _||_, _&&_}
@@ -16,14 +17,16 @@ use Rattle.registers.specs.Page.{R, among}
 use Rattle.device.specs.declared.Device.{Device}
 use Rattle.device.specs.declared.Stepped.{Stepped}
 use Rattle.device.specs.declared.Event.{Event}
-use Rattle.device.specs.declared.Event.the-variants.{Write, Read, Send, Receive, Convert, Open, PowerOn}
-use Rattle.device.specs.Ranges.{variantOf, rangedOf, operandsOf}
+use Rattle.device.specs.declared.Event.the-variants.{Write, Read, Send, Receive, Convert, Open, PowerOn, ConvertSecond, OpenSecond}
+use Rattle.device.specs.Ranges.{variantOf, rangedOf, operandsOf, secondOf}
 use Rattle.device.specs.Step.{effectOf, steppedOf, stepOf}
 use Rattle.device.specs.Run.{afterOf}
-use Rattle.device.proofs.InRange.{named}
+use Rattle.device.proofs.InRange.{named, kept}
+use Rattle.device.proofs.Untouched.{same-variant}
 use Rattle.device.proofs.Steps.{step-effect, step-ind, ranged-after, variant-after}
 use Rattle.device_laws.specs.Moves.{ownOf, answersAlert, acknowledgedOf, keptLow, lowAfterRead, lowAfter, registerByte, byteRead}
-use Rattle.device_laws.specs.LowByte.{readsOf, movesLow, Between, OneReading}
+use Rattle.device_laws.specs.Conversions.{afterAll}
+use Rattle.device_laws.specs.LowByte.{readsOf, movesLow, Between, BetweenSecond, OneReading}
 use Rattle.device_laws.proofs.Moves.{low-moves, acknowledged-exactly}
 use Rattle.device_laws.proofs.Registers.{byte-exactly}
 
@@ -41,6 +44,8 @@ reads-ind P d r read receive (Receive a) h = receive a h
 reads-ind P d r read receive (Convert local high low) h = clash h
 reads-ind P d r read receive (Open local) h = clash h
 reads-ind P d r read receive PowerOn h = clash h
+reads-ind P d r read receive (ConvertSecond local high low) h = clash h
+reads-ind P d r read receive (OpenSecond local) h = clash h
 
 reads-operands : (d : Device) (e : Event) (r : ℕ) → readsOf d e r ≡ true → operandsOf e ≡ true
 unfolding operandsOf
@@ -55,6 +60,10 @@ reads-operands d e r =
 
     own-address : (a : ℕ) → ownOf d a ≡ true → leb a 0x7F ≡ true
     own-address a h = ap (λ (x : ℕ). leb x 0x7F) (eqb-true a _ h) ∙ split (eqb (d .variant) 1)
+
+reads-own : (d : Device) (e : Event) (r : ℕ) → readsOf d e r ≡ true → secondOf e ≡ false
+unfolding secondOf
+reads-own d e r = reads-ind (λ (x : Event). secondOf x ≡ false) d r (λ a s h. refl) (λ a h. refl) e
 
 module _ (d : Device) (r : ℕ) (readable : among r R ≡ true) where
   own-readable : (own : Bool) (s : ℕ) → (own && eqb s r) ≡ true → (own && among s R) ≡ true
@@ -86,7 +95,7 @@ module _ (d : Device) (r : ℕ) (readable : among r R ≡ true) where
 
 -- a receive, the alert response apart, is a read of the register at the pointer, with the same answers and the same device after it
 pub by-pointer : (d : Device) (a : ℕ) → eqb a 0x0C ≡ false → stepOf d (Receive a) ≡ stepOf d (Read a (d .pointer))
-unfolding stepOf operandsOf effectOf
+unfolding stepOf operandsOf secondOf effectOf
 by-pointer d a h = rw h
 
 -- ---- what moves the kept low byte
@@ -114,6 +123,8 @@ leaves d e = at-event e
     at-event (Convert local high low) h = refl
     at-event (Open local) h = refl
     at-event PowerOn h = clash (sym h)
+    at-event (ConvertSecond local high low) h = refl
+    at-event (OpenSecond local) h = refl
 
 -- nothing but reads of 01 and of 10 and power-on keeps a low byte or lets one go; no refused event does
 pub unmoved : (d : Device) (e : Event) → movesLow d e ≡ false → keptLow (stepOf d e .device) ≡ keptLow d
@@ -122,6 +133,10 @@ unmoved d e h = step-ind (λ (n : Device). keptLow n ≡ keptLow d) d e refl (lo
 pub unmoved-between : (d : Device) (es : List Event) → Between d es → keptLow (afterOf d es) ≡ keptLow d
 unmoved-between d [] b = refl
 unmoved-between d (e ∷ es) b = unmoved-between (stepOf d e .device) es (b .1) ∙ unmoved d e (b .0)
+
+unmoved-second : (d : Device) (es : List Event) → BetweenSecond d es → keptLow (afterAll d es) ≡ keptLow d
+unmoved-second d [] b = refl
+unmoved-second d (e ∷ es) b = unmoved-second (effectOf d e .device) es (b .1) ∙ low-moves d e ∙ leaves d e (b .0)
 
 -- ---- a pair
 
@@ -136,9 +151,13 @@ sound-after : (d : Device) (es : List Event) → Sound d → Sound (afterOf d es
 sound-after d [] s = s
 sound-after d (e ∷ es) s = sound-after (stepOf d e .device) es (sound-step d e s)
 
+sound-second : (d : Device) (es : List Event) → Sound d → Sound (afterAll d es)
+sound-second d [] s = s
+sound-second d (e ∷ es) s = sound-second (effectOf d e .device) es (ap variantOf (same-variant d e) ∙ s .0, kept d e (s .1))
+
 module _ (d : Device) (s : Sound d) (e : Event) where
   read-step : (r : ℕ) → readsOf d e r ≡ true → stepOf d e ≡ steppedOf (effectOf d e)
-  read-step r h = step-effect d e (s .0) (s .1) (reads-operands d e r h)
+  read-step r h = step-effect d e (s .0) (s .1) (reads-own d e r h) (reads-operands d e r h)
 
   read-second : (r : ℕ) → among r R ≡ true → readsOf d e r ≡ true → stepOf d e .second ≡ registerByte d r
   read-second r m h = ap (λ (t : Stepped). t .second) (read-step r h) ∙ byte-exactly d e (s .0) ∙ reads-byte d r m e h
@@ -154,16 +173,13 @@ pub latest : (d : Device) (e : Event) → variantOf (d .variant) ≡ true → ra
     → readsOf d e 0x10 ≡ true → d .lowkept ≡ false → stepOf d e .second ≡ lowByteOf (d .sensed .remote)
 latest d e variant ranged h none = read-second d (variant, ranged) e 0x10 refl h ∙ rw none
 
--- the device may hold a kept byte already: a second read of 01 keeps anew
-pub untorn : (d : Device) (first : Event) (between : List Event) (last : Event) → variantOf (d .variant) ≡ true → rangedOf d ≡ true
-    → readsOf d first 0x01 ≡ true → Between (stepOf d first .device) between → readsOf (afterOf d (first ∷ between)) last 0x10 ≡ true
-    → OneReading (d .sensed .remote) (stepOf d first) (stepOf (afterOf d (first ∷ between)) last)
-untorn d first between last variant ranged begins b ends =
-    let s : Sound d = (variant, ranged) in
-    let n = afterOf d (first ∷ between) in
-    let t : Sound n = sound-after d (first ∷ between) s in
+-- a read of 01, and one of 10 of a device that keeps the same low byte still
+one-reading : (d : Device) (first : Event) (n : Device) (last : Event) → Sound d → Sound n
+    → readsOf d first 0x01 ≡ true → keptLow n ≡ keptLow (stepOf d first .device) → readsOf n last 0x10 ≡ true
+    → OneReading (d .sensed .remote) (stepOf d first) (stepOf n last)
+one-reading d first n last s t begins same ends =
     let reading = d .sensed .remote in
-    let low-kept : keptLow n ≡ (lowByteOf reading, true) = unmoved-between (stepOf d first .device) between b ∙ read-keeps d s first begins in
+    let low-kept : keptLow n ≡ (lowByteOf reading, true) = same ∙ read-keeps d s first begins in
     let high-read : stepOf d first .second ≡ highByteOf reading = read-second d s first 0x01 refl begins in
     let low-read : stepOf n last .second ≡ lowByteOf reading =
     read-second n t last 0x10 refl ends ∙ ap (λ (k : ℕ × Bool). cond (k .1) (k .0) (lowByteOf (n .sensed .remote))) low-kept in
@@ -172,5 +188,22 @@ untorn d first between last variant ranged begins b ends =
       last-code = read-code n t last 0x10 ends;
       high = high-read;
       low = low-read;
-      eighths = rw (high-read, low-read) (eighths-back reading (named d ranged .under) (named d ranged .over));
+      eighths = rw (high-read, low-read) (eighths-back reading (named d (s .1) .under) (named d (s .1) .over));
     }
+
+-- the device may hold a kept byte already: a second read of 01 keeps anew
+pub untorn : (d : Device) (first : Event) (between : List Event) (last : Event) → variantOf (d .variant) ≡ true → rangedOf d ≡ true
+    → readsOf d first 0x01 ≡ true → Between (stepOf d first .device) between → readsOf (afterOf d (first ∷ between)) last 0x10 ≡ true
+    → OneReading (d .sensed .remote) (stepOf d first) (stepOf (afterOf d (first ∷ between)) last)
+untorn d first between last variant ranged begins b ends =
+    let s : Sound d = (variant, ranged) in
+    let n = afterOf d (first ∷ between) in
+    one-reading d first n last s (sound-after d (first ∷ between) s) begins (unmoved-between (stepOf d first .device) between b) ends
+
+pub untorn-second : (d : Device) (first : Event) (between : List Event) (last : Event) → variantOf (d .variant) ≡ true → rangedOf d ≡ true
+    → readsOf d first 0x01 ≡ true → BetweenSecond (stepOf d first .device) between → readsOf (afterAll (stepOf d first .device) between) last 0x10 ≡ true
+    → OneReading (d .sensed .remote) (stepOf d first) (stepOf (afterAll (stepOf d first .device) between) last)
+untorn-second d first between last variant ranged begins b ends =
+    let s : Sound d = (variant, ranged) in
+    let m = stepOf d first .device in
+    one-reading d first (afterAll m between) last s (sound-second m between (sound-step d first s)) begins (unmoved-second m between b) ends

@@ -22,7 +22,7 @@ use Rattle.conversion.specs.Conversion.{readingOf, remoteLimitsOf, outOf, anyOf
 use Rattle.device.specs.declared.Device.{Device}
 use Rattle.device.specs.declared.Outcome.{Outcome}
 use Rattle.device.specs.declared.Event.{Event}
-use Rattle.device.specs.declared.Event.the-variants.{Write, Read, Send, Receive, Convert, Open, PowerOn}
+use Rattle.device.specs.declared.Event.the-variants.{Write, Read, Send, Receive, Convert, Open, PowerOn, ConvertSecond, OpenSecond}
 use Rattle.device.specs.Pins.{comparatorOf, watchedOf, alertOf}
 use Rattle.device.specs.Bus.{silentOf, answeredOf, standbyOf, maskedOf, storedOf, storedIn, firedOf, writtenOf, putOf, pointedOf}
 use Rattle.device.specs.Bus.{afterReadOf, valueOf, getOf, pointOf, respondsOf, respondOf, takesOf, convertedOf, takingOf, senseOf}
@@ -136,6 +136,8 @@ pointer-moves d (Receive a) =
 pointer-moves d (Convert local high low) = converted-pointer d local _ false
 pointer-moves d (Open local) = converted-pointer d local _ true
 pointer-moves d PowerOn = refl
+pointer-moves d (ConvertSecond local high low) = converted-pointer d local _ false
+pointer-moves d (OpenSecond local) = converted-pointer d local _ true
 
 -- ---- the pending one-shot
 
@@ -236,6 +238,8 @@ module _ (d : Device) (ranged : rangedOf d ≡ true) where
   pending-moves (Convert local high low) = sense-moves (λ (e : Device). e .pending) d local _ false false refl
   pending-moves (Open local) = sense-moves (λ (e : Device). e .pending) d local _ true false refl
   pending-moves PowerOn = refl
+  pending-moves (ConvertSecond local high low) = sense-moves (λ (e : Device). e .pending) d local _ false false refl
+  pending-moves (OpenSecond local) = sense-moves (λ (e : Device). e .pending) d local _ true false refl
 
 -- ---- status
 
@@ -291,6 +295,8 @@ status-moves d (Receive a) = receive-status d a
 status-moves d (Convert local high low) = sense-status d local _ false
 status-moves d (Open local) = sense-status d local _ true
 status-moves d PowerOn = zero-at (d .variant) 0x02 refl
+status-moves d (ConvertSecond local high low) = sense-status d local _ false
+status-moves d (OpenSecond local) = sense-status d local _ true
 
 -- ---- the kept low byte, by request a
 
@@ -344,6 +350,8 @@ low-moves d (Receive a) = receive-low d a
 low-moves d (Convert local high low) = sense-low d local _ false
 low-moves d (Open local) = sense-low d local _ true
 low-moves d PowerOn = refl
+low-moves d (ConvertSecond local high low) = sense-low d local _ false
+low-moves d (OpenSecond local) = sense-low d local _ true
 
 -- ---- the readings and the fault count
 
@@ -356,21 +364,30 @@ local-moves d (Receive a) = ap (λ (s : Sensed). s .local) (still d (Receive a) 
 local-moves d (Convert local high low) = sense-moves (λ (e : Device). e .sensed .local) d local _ false local refl
 local-moves d (Open local) = sense-moves (λ (e : Device). e .sensed .local) d local _ true local refl
 local-moves d PowerOn = zero-at (d .variant) 0x00 refl
+local-moves d (ConvertSecond local high low) = sense-moves (λ (e : Device). e .sensed .local) d local _ false local refl
+local-moves d (OpenSecond local) = sense-moves (λ (e : Device). e .sensed .local) d local _ true local refl
 
 powered-remote : (v : ℕ) → eighthsOf (readOnlyOf v 0x01) (readOnlyOf v 0x10) ≡ pos 0
 unfolding eighthsOf degreesOf
 powered-remote v = rw (zero-at v 0x01 refl, zero-at v 0x10 refl)
 
+sample-remote : (d : Device) (local high low : ℕ) → senseOf d local (readingOf (d .settings) high low) false .device .sensed .remote
+    ≡ cond (takenOf d) (sampleOf d high low) (d .sensed .remote)
+unfolding convertedOf sensedOf readingOf sumOf
+sample-remote d local high low =
+    sense-moves (λ (e : Device). e .sensed .remote) d local _ false (sampleOf d high low) (held-eighths (sumAt d high low))
+
 pub remote-moves : (d : Device) (e : Event) → effectOf d e .device .sensed .remote ≡ remoteAfter d e
-unfolding effectOf poweredOf convertedOf sensedOf readingOf sumOf
+unfolding effectOf poweredOf convertedOf sensedOf
 remote-moves d (Write a w v) = ap (λ (s : Sensed). s .remote) (still d (Write a w v) tt)
 remote-moves d (Read a r) = ap (λ (s : Sensed). s .remote) (still d (Read a r) tt)
 remote-moves d (Send a r) = ap (λ (s : Sensed). s .remote) (still d (Send a r) tt)
 remote-moves d (Receive a) = ap (λ (s : Sensed). s .remote) (still d (Receive a) tt)
-remote-moves d (Convert local high low) =
-    sense-moves (λ (e : Device). e .sensed .remote) d local _ false (sampleOf d high low) (held-eighths (sumAt d high low))
+remote-moves d (Convert local high low) = sample-remote d local high low
 remote-moves d (Open local) = sense-moves (λ (e : Device). e .sensed .remote) d local _ true (pos 1016) refl
 remote-moves d PowerOn = powered-remote (d .variant)
+remote-moves d (ConvertSecond local high low) = sample-remote d local high low
+remote-moves d (OpenSecond local) = sense-moves (λ (e : Device). e .sensed .remote) d local _ true (pos 1016) refl
 
 -- a T_CRIT is its byte times 8
 crit-eighths : (b : ℕ) → eighthsOf b 0 ≡ degreesOf b *ℤ pos 8
@@ -400,18 +417,29 @@ converted-faults : (d : Device) (local : ℕ) (t : ℤ) (broken : Bool) → conv
 unfolding convertedOf sensedOf
 converted-faults d local t broken = count-outside d t
 
+sample-faults : (d : Device) (local high low : ℕ) → senseOf d local (readingOf (d .settings) high low) false .device .sensed .faults
+    ≡ cond (takenOf d) (countAfter d (sampleOf d high low)) (d .sensed .faults)
+unfolding readingOf sumOf
+sample-faults d local high low =
+    let count = converted-faults d local _ false ∙ ap (countAfter d) (held-eighths (sumAt d high low)) in
+    sense-moves (λ (e : Device). e .sensed .faults) d local _ false (countAfter d (sampleOf d high low)) count
+
+open-faults : (d : Device) (local : ℕ) → senseOf d local openReading true .device .sensed .faults
+    ≡ cond (takenOf d) (countAfter d (pos 1016)) (d .sensed .faults)
+open-faults d local =
+    sense-moves (λ (e : Device). e .sensed .faults) d local openReading true (countAfter d (pos 1016)) (converted-faults d local (pos 1016) true)
+
 pub faults-moves : (d : Device) (e : Event) → effectOf d e .device .sensed .faults ≡ faultsAfter d e
-unfolding effectOf poweredOf readingOf sumOf
+unfolding effectOf poweredOf
 faults-moves d (Write a w v) = ap (λ (s : Sensed). s .faults) (still d (Write a w v) tt)
 faults-moves d (Read a r) = ap (λ (s : Sensed). s .faults) (still d (Read a r) tt)
 faults-moves d (Send a r) = ap (λ (s : Sensed). s .faults) (still d (Send a r) tt)
 faults-moves d (Receive a) = ap (λ (s : Sensed). s .faults) (still d (Receive a) tt)
-faults-moves d (Convert local high low) =
-    let count = converted-faults d local _ false ∙ ap (countAfter d) (held-eighths (sumAt d high low)) in
-    sense-moves (λ (e : Device). e .sensed .faults) d local _ false (countAfter d (sampleOf d high low)) count
-faults-moves d (Open local) =
-    sense-moves (λ (e : Device). e .sensed .faults) d local openReading true (countAfter d (pos 1016)) (converted-faults d local (pos 1016) true)
+faults-moves d (Convert local high low) = sample-faults d local high low
+faults-moves d (Open local) = open-faults d local
 faults-moves d PowerOn = refl
+faults-moves d (ConvertSecond local high low) = sample-faults d local high low
+faults-moves d (OpenSecond local) = open-faults d local
 
 -- ---- the live byte and the latches, with the readings and the count
 
@@ -434,6 +462,8 @@ sensed-rests d (Receive a) h = still d (Receive a) tt
 sensed-rests d (Convert local high low) h = sense-rests d local _ false h
 sensed-rests d (Open local) h = sense-rests d local _ true h
 sensed-rests d PowerOn h = clash h
+sensed-rests d (ConvertSecond local high low) h = sense-rests d local _ false h
+sensed-rests d (OpenSecond local) h = sense-rests d local _ true h
 
 -- and power-on leaves both readings 0, no live bit, no fault counted and no latch set
 pub sensed-starts : (d : Device)
@@ -507,6 +537,8 @@ acknowledged-exactly d (Receive a) = receive-acknowledged d a
 acknowledged-exactly d (Convert local high low) = sense-unacknowledged d local _ false
 acknowledged-exactly d (Open local) = sense-unacknowledged d local _ true
 acknowledged-exactly d PowerOn = refl
+acknowledged-exactly d (ConvertSecond local high low) = sense-unacknowledged d local _ false
+acknowledged-exactly d (OpenSecond local) = sense-unacknowledged d local _ true
 
 -- a yes or no of an outcome that silence and every acknowledgement leave at no: every event on the bus does
 module _ (f : Outcome → Bool) (silent : (d : Device) → f (silentOf d) ≡ false) (answered : (d : Device) (byte : ℕ) → f (answeredOf d byte) ≡ false) where
@@ -530,6 +562,8 @@ module _ (f : Outcome → Bool) (silent : (d : Device) → f (silentOf d) ≡ fa
   bus-none d (Convert local high low) h = absurd h
   bus-none d (Open local) h = absurd h
   bus-none d PowerOn h = absurd h
+  bus-none d (ConvertSecond local high low) h = absurd h
+  bus-none d (OpenSecond local) h = absurd h
 
 untaken : (d : Device) (e : Event) → OnBus e → effectOf d e .taken ≡ false
 untaken = bus-none (λ (o : Outcome). o .taken) (λ d. refl) (λ d byte. refl)
@@ -563,6 +597,8 @@ taken-exactly d (Receive a) = untaken d (Receive a) tt
 taken-exactly d (Convert local high low) = sense-taken d local _ false
 taken-exactly d (Open local) = sense-taken d local _ true
 taken-exactly d PowerOn = refl
+taken-exactly d (ConvertSecond local high low) = sense-taken d local _ false
+taken-exactly d (OpenSecond local) = sense-taken d local _ true
 
 pub held-exactly : (d : Device) (e : Event) → effectOf d e .held ≡ heldBy d e
 unfolding effectOf readingOf sumOf
@@ -573,3 +609,5 @@ held-exactly d (Receive a) = unheld d (Receive a) tt
 held-exactly d (Convert local high low) = sense-held d local _ false ∙ ap (λ (t : Bool). takenOf d && t) (held-tells (sumAt d high low))
 held-exactly d (Open local) = sense-held d local openReading true ∙ and-false (takenOf d)
 held-exactly d PowerOn = refl
+held-exactly d (ConvertSecond local high low) = sense-held d local _ false ∙ ap (λ (t : Bool). takenOf d && t) (held-tells (sumAt d high low))
+held-exactly d (OpenSecond local) = sense-held d local openReading true ∙ and-false (takenOf d)

@@ -19,7 +19,7 @@ use Rattle.registers.proofs.Settings.{somewhere, settable-position}
 use Rattle.device.specs.declared.Device.{Device}
 use Rattle.device.specs.declared.Outcome.{Outcome}
 use Rattle.device.specs.declared.Event.{Event}
-use Rattle.device.specs.declared.Event.the-variants.{Write, Read, Send, Receive, Convert, Open, PowerOn}
+use Rattle.device.specs.declared.Event.the-variants.{Write, Read, Send, Receive, Convert, Open, PowerOn, ConvertSecond, OpenSecond}
 use Rattle.device.specs.Pins.{comparatorOf}
 use Rattle.device.specs.Bus.{silentOf, answeredOf, maskedOf, storedOf, firedOf, putOf, pointedOf, readOutOf, lowReadOf}
 use Rattle.device.specs.Bus.{afterReadOf, readOnlyValueOf, valueOf, getOf, pointOf, respondsOf, respondOf, convertedOf, takesOf, senseOf, poweredOf, atOf}
@@ -231,6 +231,8 @@ setting-moves d (Receive a) whole variant q = receive-byte d whole q a
 setting-moves d (Convert local high low) whole variant q = sense-byte d whole q local _ false
 setting-moves d (Open local) whole variant q = sense-byte d whole q local _ true
 setting-moves d PowerOn whole variant q = powered-byte (d .variant) variant q
+setting-moves d (ConvertSecond local high low) whole variant q = sense-byte d whole q local _ false
+setting-moves d (OpenSecond local) whole variant q = sense-byte d whole q local _ true
 
 -- ---- the byte read
 
@@ -317,3 +319,5 @@ byte-exactly d (Receive a) variant = receive-read d variant a
 byte-exactly d (Convert local high low) variant = cond-ind (λ (o : Outcome). o .byte ≡ 0) (takesOf d) (λ _. refl) (λ _. refl)
 byte-exactly d (Open local) variant = cond-ind (λ (o : Outcome). o .byte ≡ 0) (takesOf d) (λ _. refl) (λ _. refl)
 byte-exactly d PowerOn variant = refl
+byte-exactly d (ConvertSecond local high low) variant = cond-ind (λ (o : Outcome). o .byte ≡ 0) (takesOf d) (λ _. refl) (λ _. refl)
+byte-exactly d (OpenSecond local) variant = cond-ind (λ (o : Outcome). o .byte ≡ 0) (takesOf d) (λ _. refl) (λ _. refl)

@@ -10,7 +10,7 @@ use lib.Bits.{bitAnd}
 use Rattle.registers.specs.Page.{settingOf, changedOf}
 use Rattle.device.specs.declared.Device.{Device}
 use Rattle.device.specs.declared.Event.{Event}
-use Rattle.device.specs.declared.Event.the-variants.{Write, Read, Send, Receive, Convert, Open, PowerOn}
+use Rattle.device.specs.declared.Event.the-variants.{Write, Read, Send, Receive, Convert, Open, PowerOn, ConvertSecond, OpenSecond}
 use Rattle.device.specs.Bus.{setUpOf}
 use Rattle.device_laws.specs.Moves.{ownOf}
 use Rattle.device.specs.Run.{Reply}
@@ -36,6 +36,8 @@ readsThem d (Receive a) = ownOf d a && (eqb (d .pointer) 0x04 || eqb (d .pointer
 readsThem d (Convert local high low) = false
 readsThem d (Open local) = false
 readsThem d PowerOn = false
+readsThem d (ConvertSecond local high low) = false
+readsThem d (OpenSecond local) = false
 
 -- one event at two devices: acknowledged, taken, held and the first answer byte alike, the byte read too unless the event reads 04 or BF, and the
 -- devices after it alike

@@ -1,7 +1,9 @@
 -- What an event did before request b, in the words of that time: the sum tells the reading alone, an outcome says nothing of a held reading, and the
--- first answer byte has four bits. Only what the request moved stands here; the device and what happens to it are those of `device`.
+-- first answer byte has four bits. Only what the request moved stands here; the device and what happens to it are those of `device`. The events of
+-- that time are kinds 01 to 07: those of request c, which a step refuses today, are outside what is compared.
 -- Assumes nothing.
 use Prim.Native.Nat.{ℕ, _+_, _*_}
+use mathlib.Core.Path.{_≡_}
 use mathlib.Core.Bool.{Bool, true, false, _&&_, cond}
 use mathlib.Core.List.{List, [], _∷_}
 use lib.IntN.{ℤ, pos, negℤ}
@@ -15,10 +17,10 @@ use Rattle.device.specs.declared.Device.{Device}
 use Rattle.device.specs.declared.Pins.{Pins}
 use Rattle.device.specs.declared.Stepped.{Stepped}
 use Rattle.device.specs.declared.Event.{Event}
-use Rattle.device.specs.declared.Event.the-variants.{Write, Read, Send, Receive, Convert, Open, PowerOn}
+use Rattle.device.specs.declared.Event.the-variants.{Write, Read, Send, Receive, Convert, Open, PowerOn, ConvertSecond, OpenSecond}
 use Rattle.device.specs.Pins.{pinsOf}
 use Rattle.device.specs.Bus.{pointedOf, maskedOf, writtenOf, valueOf, afterReadOf, alertResponse, respondsOf, takesOf, convertedOf, poweredOf}
-use Rattle.device.specs.Ranges.{variantOf, rangedOf, operandsOf}
+use Rattle.device.specs.Ranges.{variantOf, rangedOf, operandsOf, secondOf}
 use Rattle.device.specs.Step.{refusedOf}
 use Rattle.device.specs.Run.{Reply}
 
@@ -93,6 +95,9 @@ effectOf d (Convert local high low) = senseOf d local (readingOf (d .settings) h
 effectOf d (Open local) = senseOf d local openReading true
 -- power-on keeps the variant and nothing else
 effectOf d PowerOn = silentOf (poweredOf (d .variant))
+-- request c's events are none of that time, and outside the theorem: nothing is done
+effectOf d (ConvertSecond local high low) = silentOf d
+effectOf d (OpenSecond local) = silentOf d
 
 -- ---- the answer
 
@@ -114,6 +119,11 @@ stepOf d e =
     cond (variantOf (d .variant) && rangedOf d) (cond (operandsOf e) (steppedOf (effectOf d e)) (refusedOf d 4)) (refusedOf d 8)
 
 -- ---- events one after the other
+
+-- events of that time
+abbrev pub OfThatTime : List Event → Type 0
+OfThatTime [] = Unit {0}
+OfThatTime (e ∷ es) = (secondOf e ≡ false) × OfThatTime es
 
 abbrev pub repliesOf : Device → List Event → List Reply
 repliesOf d [] = []

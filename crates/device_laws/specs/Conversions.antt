@@ -1,4 +1,5 @@
--- P2, P4, P5, P11 and request b of a device: what a taken conversion does to it, field by field, and conversions in a row.
+-- P2, P4, P5, P11 and request b of a device: what a taken conversion does to it, field by field, and conversions in a row. Request c: those of a
+-- second device, kinds 08 and 09, are among them.
 -- Assumes nothing.
 use Prim.Native.Nat.{ℕ}
 use mathlib.Core.Path.{_≡_}
@@ -11,7 +12,7 @@ use Rattle.device_laws.specs.Moves.{sampleOf, heldBy}
 use Rattle.device.specs.declared.Device.{Device}
 use Rattle.device.specs.declared.Outcome.{Outcome}
 use Rattle.device.specs.declared.Event.{Event}
-use Rattle.device.specs.declared.Event.the-variants.{Write, Read, Send, Receive, Convert, Open, PowerOn}
+use Rattle.device.specs.declared.Event.the-variants.{Write, Read, Send, Receive, Convert, Open, PowerOn, ConvertSecond, OpenSecond}
 use Rattle.device.specs.Profile.{IsConversion}
 use Rattle.device.specs.Step.{effectOf}
 
@@ -25,6 +26,8 @@ localIn (Receive a) = 0
 localIn (Convert local high low) = local
 localIn (Open local) = local
 localIn PowerOn = 0
+localIn (ConvertSecond local high low) = local
+localIn (OpenSecond local) = local
 
 abbrev pub openIn : Event → Bool
 openIn (Write a w v) = false
@@ -34,6 +37,8 @@ openIn (Receive a) = false
 openIn (Convert local high low) = false
 openIn (Open local) = true
 openIn PowerOn = false
+openIn (ConvertSecond local high low) = false
+openIn (OpenSecond local) = true
 
 -- P2: sample plus the offset of 11 and 12, held to -1024..1023; 1016 with no offset for an open diode
 abbrev pub readingIn : Device → Event → ℤ
@@ -44,6 +49,8 @@ readingIn d (Receive a) = pos 0
 readingIn d (Convert local high low) = sampleOf d high low
 readingIn d (Open local) = pos 1016
 readingIn d PowerOn = pos 0
+readingIn d (ConvertSecond local high low) = sampleOf d high low
+readingIn d (OpenSecond local) = pos 1016
 
 -- ---- a taken conversion
 

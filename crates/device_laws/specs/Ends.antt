@@ -7,8 +7,8 @@ use mathlib.Core.List.{List, [], _∷_, map}
 use lib.IntN.{ℤ, pos, negsuc}
 use Rattle.registers.specs.Page.{readableOf, writableOf, knownOf, readPositionOf, settingOf, keptOf}
 use Rattle.device.specs.declared.Device.{Device}
-use Rattle.device.specs.declared.Event.the-variants.{Write, Read, Send, Receive, Convert, Open, PowerOn}
-use Rattle.device.specs.Ranges.{variantOf, masksOf, rangedOf, operandsOf}
+use Rattle.device.specs.declared.Event.the-variants.{Write, Read, Send, Receive, Convert, Open, PowerOn, ConvertSecond, OpenSecond}
+use Rattle.device.specs.Ranges.{variantOf, masksOf, rangedOf, operandsOf, secondOf}
 
 pub variants : map variantOf (0 ∷ 1 ∷ 2 ∷ 3 ∷ 4 ∷ []) ≡ false ∷ true ∷ true ∷ true ∷ false ∷ []
 unfolding variantOf
@@ -128,7 +128,17 @@ tested = refl
 pub operands :
     map operandsOf
     (Write 0x7F 0xFF 0xFF ∷ Write 0x80 0x09 0x00 ∷ Read 0x7F 0xFF ∷ Read 0x80 0x00 ∷ Send 0x7F 0xFF ∷ Send 0x80 0x00 ∷ Receive 0x7F ∷ Receive 0x80 ∷
-    Convert 0xFF 0xFF 0xE0 ∷ Convert 0xFF 0xFF 0xC0 ∷ Convert 0x00 0x00 0x10 ∷ Convert 0x00 0x00 0x21 ∷ Open 0xFF ∷ PowerOn ∷ [])
-    ≡ true ∷ false ∷ true ∷ false ∷ true ∷ false ∷ true ∷ false ∷ true ∷ true ∷ false ∷ false ∷ true ∷ true ∷ []
+    Convert 0xFF 0xFF 0xE0 ∷ Convert 0xFF 0xFF 0xC0 ∷ Convert 0x00 0x00 0x10 ∷ Convert 0x00 0x00 0x21 ∷ Open 0xFF ∷ PowerOn ∷
+    ConvertSecond 0xFF 0xFF 0xE0 ∷ ConvertSecond 0xFF 0xFF 0xC0 ∷ ConvertSecond 0x00 0x00 0x10 ∷ ConvertSecond 0x00 0x00 0x21 ∷ OpenSecond 0xFF ∷ [])
+    ≡ true ∷ false ∷ true ∷ false ∷ true ∷ false ∷ true ∷ false ∷ true ∷ true ∷ false ∷ false ∷ true ∷ true ∷ true ∷ true ∷ false ∷ false ∷ true ∷ []
 unfolding operandsOf
 operands = refl
+
+-- request c: kinds 08 and 09 are a second device's, a bad operand or not, and no other is
+pub seconds :
+    map secondOf
+    (Write 0x4D 0x09 0x00 ∷ Read 0x4D 0x00 ∷ Send 0x4D 0x00 ∷ Receive 0x4D ∷ Convert 0x00 0x00 0x00 ∷ Open 0x00 ∷ PowerOn ∷
+    ConvertSecond 0x00 0x00 0x00 ∷ ConvertSecond 0x00 0x00 0x01 ∷ OpenSecond 0x00 ∷ [])
+    ≡ false ∷ false ∷ false ∷ false ∷ false ∷ false ∷ false ∷ true ∷ true ∷ true ∷ []
+unfolding secondOf
+seconds = refl

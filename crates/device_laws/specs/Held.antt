@@ -1,5 +1,5 @@
--- Request b: what D4 of the first answer byte tells of a conversion. `proofs/Held.antt` and, against the definitions before the request,
--- `proofs/BeforeHeld.antt` prove it of every device and event.
+-- Request b: what D4 of the first answer byte tells of a conversion. `proofs/Held.antt` proves it of every device and event, and
+-- `proofs/BeforeHeld.antt`, against the definitions before the request, of every device and every event of that time.
 -- Assumes nothing.
 use mathlib.Core.Path.{_≡_}
 use mathlib.Core.Bool.{Bool, true, false}
@@ -11,7 +11,7 @@ use Rattle.registers.specs.Bits.{has}
 use Rattle.device.specs.declared.Outcome.{Outcome}
 use Rattle.device.specs.declared.Stepped.{Stepped}
 use Rattle.device.specs.declared.Event.{Event}
-use Rattle.device.specs.declared.Event.the-variants.{Write, Read, Send, Receive, Convert, Open, PowerOn}
+use Rattle.device.specs.declared.Event.the-variants.{Write, Read, Send, Receive, Convert, Open, PowerOn, ConvertSecond, OpenSecond}
 use Rattle.device.specs.Step.{answerOf}
 use Rattle.device.specs.Run.{Reply}
 use Rattle.device_laws.specs.Moves.{offScale}
@@ -20,7 +20,7 @@ use Rattle.device_laws.specs.Moves.{offScale}
 abbrev pub showsHeld : Outcome → Bool
 showsHeld o = has (answerOf o) 0x10
 
--- a conversion with the diode connected: kind 05
+-- a conversion with the diode connected: kind 05 or, by request c, 08
 abbrev pub connected : Event → Bool
 connected (Write a w v) = false
 connected (Read a r) = false
@@ -29,9 +29,21 @@ connected (Receive a) = false
 connected (Convert local high low) = true
 connected (Open local) = false
 connected PowerOn = false
+connected (ConvertSecond local high low) = true
+connected (OpenSecond local) = false
 
--- a taken conversion of kind 05 with this sum of sample and offset: D4 is 1 exactly if the sum is above 1023 or below -1024; where it is 0 the
--- reading is the sum, and where it is 1 it is not, but the end of the scale that the sum lies beyond
+-- such a conversion with this local byte and this sample
+pub data Samples (local high low : ℕ) : Event → Type 0 where
+  kind-05 : Samples local high low (Convert local high low)
+  kind-08 : Samples local high low (ConvertSecond local high low)
+
+-- a conversion with the diode open: kind 06 or, by request c, 09
+pub data Opens : Event → Type 0 where
+  kind-06 : (local : ℕ) → Opens (Open local)
+  kind-09 : (local : ℕ) → Opens (OpenSecond local)
+
+-- a taken conversion of kind 05 or 08 with this sum of sample and offset: D4 is 1 exactly if the sum is above 1023 or below -1024; where it is 0
+-- the reading is the sum, and where it is 1 it is not, but the end of the scale that the sum lies beyond
 pub record Told (sum : ℤ) (o : Outcome) : Type 0 where
   pub shown : showsHeld o ≡ offScale sum
   pub within : showsHeld o ≡ false → o .device .sensed .remote ≡ sum

@@ -1,6 +1,6 @@
 -- Each part of a device after an event, part by part: a second account of `effectOf`, which goes event by event. Registers, bits and
 -- addresses stand here as document 01 prints them. `proofs/Moves.antt` and `proofs/Registers.antt` say that the two accounts agree for every
--- device and event.
+-- device and event. Request c: the last two lines of each account are those of kinds 08 and 09, which move what 05 and 06 do, of the device at hand.
 -- Assumes nothing.
 use Prim.Native.Nat.{ℕ, _+_, _-_, min}
 use mathlib.Core.Bool.{Bool, true, false, not, _||_, _&&_, cond}
@@ -13,7 +13,7 @@ use Rattle.temperature.specs.Temperature.{degreesOf, eighthsOf, highByteOf, low
 use Rattle.registers.specs.Page.{R, W, among, settingOf}
 use Rattle.device.specs.declared.Device.{Device}
 use Rattle.device.specs.declared.Event.{Event}
-use Rattle.device.specs.declared.Event.the-variants.{Write, Read, Send, Receive, Convert, Open, PowerOn}
+use Rattle.device.specs.declared.Event.the-variants.{Write, Read, Send, Receive, Convert, Open, PowerOn, ConvertSecond, OpenSecond}
 
 -- ---- tests, in the paper's words
 
@@ -52,6 +52,8 @@ pointerAfter d (Receive a) = d .pointer
 pointerAfter d (Convert local high low) = d .pointer
 pointerAfter d (Open local) = d .pointer
 pointerAfter d PowerOn = 0x00
+pointerAfter d (ConvertSecond local high low) = d .pointer
+pointerAfter d (OpenSecond local) = d .pointer
 
 -- ---- the pending one-shot
 
@@ -68,6 +70,8 @@ pendingAfter d (Receive a) = d .pending
 pendingAfter d (Convert local high low) = cond (takenOf d) false (d .pending)
 pendingAfter d (Open local) = cond (takenOf d) false (d .pending)
 pendingAfter d PowerOn = false
+pendingAfter d (ConvertSecond local high low) = cond (takenOf d) false (d .pending)
+pendingAfter d (OpenSecond local) = cond (takenOf d) false (d .pending)
 
 -- ---- the readings
 
@@ -91,6 +95,8 @@ localAfter d (Receive a) = d .sensed .local
 localAfter d (Convert local high low) = cond (takenOf d) local (d .sensed .local)
 localAfter d (Open local) = cond (takenOf d) local (d .sensed .local)
 localAfter d PowerOn = 0
+localAfter d (ConvertSecond local high low) = cond (takenOf d) local (d .sensed .local)
+localAfter d (OpenSecond local) = cond (takenOf d) local (d .sensed .local)
 
 -- P2: an open diode gives 1016 with no offset
 abbrev pub remoteAfter : Device → Event → ℤ
@@ -101,6 +107,8 @@ remoteAfter d (Receive a) = d .sensed .remote
 remoteAfter d (Convert local high low) = cond (takenOf d) (sampleOf d high low) (d .sensed .remote)
 remoteAfter d (Open local) = cond (takenOf d) (pos 1016) (d .sensed .remote)
 remoteAfter d PowerOn = pos 0
+remoteAfter d (ConvertSecond local high low) = cond (takenOf d) (sampleOf d high low) (d .sensed .remote)
+remoteAfter d (OpenSecond local) = cond (takenOf d) (pos 1016) (d .sensed .remote)
 
 -- neither a taken conversion nor power-on
 abbrev pub restsAt : Device → Event → Bool
@@ -111,6 +119,8 @@ restsAt d (Receive a) = true
 restsAt d (Convert local high low) = not (takenOf d)
 restsAt d (Open local) = not (takenOf d)
 restsAt d PowerOn = false
+restsAt d (ConvertSecond local high low) = not (takenOf d)
+restsAt d (OpenSecond local) = not (takenOf d)
 
 -- ---- the fault count
 
@@ -133,6 +143,8 @@ faultsAfter d (Receive a) = d .sensed .faults
 faultsAfter d (Convert local high low) = cond (takenOf d) (countAfter d (sampleOf d high low)) (d .sensed .faults)
 faultsAfter d (Open local) = cond (takenOf d) (countAfter d (pos 1016)) (d .sensed .faults)
 faultsAfter d PowerOn = 0
+faultsAfter d (ConvertSecond local high low) = cond (takenOf d) (countAfter d (sampleOf d high low)) (d .sensed .faults)
+faultsAfter d (OpenSecond local) = cond (takenOf d) (countAfter d (pos 1016)) (d .sensed .faults)
 
 -- ---- status
 
@@ -145,6 +157,8 @@ statusAfter d (Receive a) live = cond (ownOf d a && eqb (d .pointer) 0x02) 0 (d 
 statusAfter d (Convert local high low) live = cond (takenOf d) (bitOr (d .status) live) (d .status)
 statusAfter d (Open local) live = cond (takenOf d) (bitOr (d .status) live) (d .status)
 statusAfter d PowerOn live = 0
+statusAfter d (ConvertSecond local high low) live = cond (takenOf d) (bitOr (d .status) live) (d .status)
+statusAfter d (OpenSecond local) live = cond (takenOf d) (bitOr (d .status) live) (d .status)
 
 -- ---- the kept low byte, by request a
 
@@ -168,6 +182,8 @@ lowAfter d (Receive a) = lowAfterRead d (ownOf d a) (d .pointer)
 lowAfter d (Convert local high low) = keptLow d
 lowAfter d (Open local) = keptLow d
 lowAfter d PowerOn = (0, false)
+lowAfter d (ConvertSecond local high low) = keptLow d
+lowAfter d (OpenSecond local) = keptLow d
 
 -- ---- acknowledged, a conversion taken, and a reading held
 
@@ -184,6 +200,8 @@ acknowledgedOf d (Receive a) = (ownOf d a && among (d .pointer) R) || (eqb a 0x0
 acknowledgedOf d (Convert local high low) = false
 acknowledgedOf d (Open local) = false
 acknowledgedOf d PowerOn = false
+acknowledgedOf d (ConvertSecond local high low) = false
+acknowledgedOf d (OpenSecond local) = false
 
 -- P11: conversions alone are taken, and never acknowledged
 abbrev pub takenBy : Device → Event → Bool
@@ -194,12 +212,14 @@ takenBy d (Receive a) = false
 takenBy d (Convert local high low) = takenOf d
 takenBy d (Open local) = takenOf d
 takenBy d PowerOn = false
+takenBy d (ConvertSecond local high low) = takenOf d
+takenBy d (OpenSecond local) = takenOf d
 
 -- request b: above 1023 or below -1024
 abbrev pub offScale : ℤ → Bool
 offScale sum = ltZ (pos 1023) sum || ltZ sum (negℤ (pos 1024))
 
--- request b: a conversion with the diode connected, kind 05, that is taken and whose sample plus offset is off the scale; no other event
+-- request b: a conversion with the diode connected, kind 05 or 08, that is taken and whose sample plus offset is off the scale; no other event
 abbrev pub heldBy : Device → Event → Bool
 heldBy d (Write a w v) = false
 heldBy d (Read a r) = false
@@ -208,6 +228,8 @@ heldBy d (Receive a) = false
 heldBy d (Convert local high low) = takenOf d && offScale (sumAt d high low)
 heldBy d (Open local) = false
 heldBy d PowerOn = false
+heldBy d (ConvertSecond local high low) = takenOf d && offScale (sumAt d high low)
+heldBy d (OpenSecond local) = false
 
 -- ---- the settings
 
@@ -257,6 +279,8 @@ settingAfter d (Receive a) q = maskedAt d ((ownOf d a && (eqb (d .pointer) 0x02 
 settingAfter d (Convert local high low) q = byteAt d q
 settingAfter d (Open local) q = byteAt d q
 settingAfter d PowerOn q = startByte (d .variant) q
+settingAfter d (ConvertSecond local high low) q = byteAt d q
+settingAfter d (OpenSecond local) q = byteAt d q
 
 -- ---- the byte read
 
@@ -288,3 +312,5 @@ byteRead d (Receive a) =
 byteRead d (Convert local high low) = 0
 byteRead d (Open local) = 0
 byteRead d PowerOn = 0
+byteRead d (ConvertSecond local high low) = 0
+byteRead d (OpenSecond local) = 0

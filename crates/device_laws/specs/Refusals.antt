@@ -1,10 +1,10 @@
--- Steps that refuse: 8 before 4, answer bytes 0, the device as it was.
+-- Steps that refuse: 8, then by request c 3, then 4, answer bytes 0, the device as it was.
 -- Assumes nothing.
 use mathlib.Core.Path.{_≡_, refl}
 use mathlib.Core.Bool.{true, false}
 use mathlib.Core.List.{[], _∷_}
 use Rattle.registers.specs.Page.{powerOnOf}
-use Rattle.device.specs.declared.Event.the-variants.{Write, Read, Send, Receive, Convert, PowerOn}
+use Rattle.device.specs.declared.Event.the-variants.{Write, Read, Send, Receive, Convert, PowerOn, ConvertSecond, OpenSecond}
 use Rattle.device.specs.Bus.{setUpOf, readOutOf, poweredOf}
 use Rattle.device.specs.Opened.{deviceOpened}
 use Rattle.device.specs.Step.{refusedOf, stepOf}
@@ -27,6 +27,12 @@ pub refusals :
     ∷ stepOf stray (Receive 0x80)
     ∷ stepOf sixteenths (Read 0x4C 0x10)
     ∷ stepOf unkept PowerOn
+    ∷ stepOf (poweredOf 0) (ConvertSecond 0x19 0x55 0x20)
+    ∷ stepOf stray (ConvertSecond 0x00 0x00 0x01)
+    ∷ stepOf unkept (OpenSecond 0x19)
+    ∷ stepOf (poweredOf 1) (ConvertSecond 0x19 0x55 0x20)
+    ∷ stepOf (poweredOf 2) (OpenSecond 0x19)
+    ∷ stepOf (poweredOf 3) (ConvertSecond 0x00 0x00 0x01)
     ∷ stepOf (poweredOf 1) (Write 0x80 0x09 0xFF)
     ∷ stepOf (poweredOf 1) (Read 0xFF 0x00)
     ∷ stepOf (poweredOf 2) (Send 0x80 0x00)
@@ -38,6 +44,12 @@ pub refusals :
     ∷ refusedOf stray 8
     ∷ refusedOf sixteenths 8
     ∷ refusedOf unkept 8
+    ∷ refusedOf (poweredOf 0) 8
+    ∷ refusedOf stray 8
+    ∷ refusedOf unkept 8
+    ∷ refusedOf (poweredOf 1) 3
+    ∷ refusedOf (poweredOf 2) 3
+    ∷ refusedOf (poweredOf 3) 3
     ∷ refusedOf (poweredOf 1) 4
     ∷ refusedOf (poweredOf 1) 4
     ∷ refusedOf (poweredOf 2) 4

@@ -204,6 +204,6 @@ readOnlyOf variant r = column variant (readOnlyIn r page)
 
 -- ---- variants
 
--- 1 LM89C at 4C, 2 LM89-1C and 3 LM89-1D at 4D; any other variant is out of the ranges of a step and of a reader
+-- 1 LM89C at 4C, 2 LM89-1C and 3 LM89-1D at 4D; any other variant is out of the ranges of a step, and of a device on a bus
 unfoldable pub addressOf : ℕ → ℕ
 addressOf variant = cond (eqb variant 1) 0x4C 0x4D

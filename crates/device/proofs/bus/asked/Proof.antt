@@ -1,5 +1,6 @@
 -- Assumes nothing.
 use borrow.Author.Needs.{needs}
+use mathlib.Core.Logic.{⊎-elim}
 use borrow.Author.Tests.{eq-eqb, ne-eqb}
 use mir.Facts.{toZ-ofZ}
 use mir.Val.{SFits}
@@ -35,17 +36,23 @@ at-requires-4 c κs = search needs
 enum-known-e-5 : tie.Need-enum-known-e-5
 enum-known-e-5 c = search needs
 
-reading-requires : tie.Need-reading-requires
-reading-requires c κs = search needs
-
 enum-known-e-6 : tie.Need-enum-known-e-6
 enum-known-e-6 c = search needs
+
+enum-known-e-7 : tie.Need-enum-known-e-7
+enum-known-e-7 c = search needs
+
+enum-known-e-8 : tie.Need-enum-known-e-8
+enum-known-e-8 c = search needs
+
+enum-told : tie.Need-enum-told
+enum-told c = search needs
 
 open-reading-requires : tie.Need-open-reading-requires
 open-reading-requires c κs = search needs
 
-enum-told : tie.Need-enum-told
-enum-told c = search needs
+reading-requires : tie.Need-reading-requires
+reading-requires c κs = search needs
 
 returns : tie.Need-returns
 unfolding askedOf
@@ -69,21 +76,27 @@ returns-5 c = rw (c .at4 .ensures, c .before .before .before .e4 .given .1, ne-e
 
 returns-6 : tie.Need-returns-6
 unfolding askedOf
-returns-6 c =
-    let read = c .before in
-    let told : SFits w16 (read .reading .result .eighths) = search needs in
-    rw (toZ-ofZ told, read .reading .ensures, read .before .before .before .e5 .given .1)
+returns-6 c = rw (c .enum-told .given .1)
 
 returns-7 : tie.Need-returns-7
 unfolding askedOf
 returns-7 c =
     let read = c .before in
     let told : SFits w16 (read .open-reading .result .eighths) = search needs in
-    rw (toZ-ofZ told, read .open-reading .ensures, read .before .before .e6 .given .1)
+    ⊎-elim
+    (λ w. rw (toZ-ofZ told, read .open-reading .ensures, w .1 .given .1, w .3))
+    (λ w. rw (toZ-ofZ told, read .open-reading .ensures, w .1 .given .1, w .3))
+    (read .before .match .came)
 
 returns-8 : tie.Need-returns-8
 unfolding askedOf
-returns-8 c = rw (c .enum-told .given .1)
+returns-8 c =
+    let read = c .before in
+    let told : SFits w16 (read .reading .result .eighths) = search needs in
+    ⊎-elim
+    (λ w. rw (toZ-ofZ told, read .reading .ensures, w .1 .given .1, w .3, w .4, w .5))
+    (λ w. rw (toZ-ofZ told, read .reading .ensures, w .1 .given .1, w .3, w .4, w .5))
+    (read .before .before .match .came)
 
 pub asked-spec : {M : Type 1} → statement M
 asked-spec =
@@ -98,10 +111,12 @@ asked-spec =
     enum-known-e-4
     at-requires-4
     enum-known-e-5
-    reading-requires
     enum-known-e-6
-    open-reading-requires
+    enum-known-e-7
+    enum-known-e-8
     enum-told
+    open-reading-requires
+    reading-requires
     returns
     returns-2
     returns-3

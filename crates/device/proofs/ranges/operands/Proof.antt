@@ -25,6 +25,12 @@ enum-told c = search needs
 enum-told-2 : tie.Need-enum-told-2
 enum-told-2 c = search needs
 
+enum-known-e-6 : tie.Need-enum-known-e-6
+enum-known-e-6 c = search needs
+
+enum-told-3 : tie.Need-enum-told-3
+enum-told-3 c = search needs
+
 returns : tie.Need-returns
 unfolding operandsOf
 returns c = rw (c .before .e .given .1)
@@ -53,6 +59,14 @@ returns-7 : tie.Need-returns-7
 unfolding operandsOf
 returns-7 c = rw (c .enum-told2 .given .1)
 
+returns-8 : tie.Need-returns-8
+unfolding operandsOf
+returns-8 c = rw (c .before .e6 .given .1)
+
+returns-9 : tie.Need-returns-9
+unfolding operandsOf
+returns-9 c = rw (c .enum-told3 .given .1)
+
 pub operands-spec : {M : Type 1} → statement M
 operands-spec =
     tie.close
@@ -64,10 +78,14 @@ operands-spec =
     enum-known-e-5
     enum-told
     enum-told-2
+    enum-known-e-6
+    enum-told-3
     returns
     returns-2
     returns-3
     returns-4
     returns-5
     returns-6
-    returns-7)
+    returns-7
+    returns-8
+    returns-9)
