@@ -4,19 +4,19 @@
 -- `one-step`: two results that meet the promise are equal, device included.
 -- Assumes nothing.
 use Prim.Native.Nat.{ℕ}
-use mathlib.Core.Path.{_≡_, sym, _∙_}
-use mathlib.Core.Bool.{Bool, false, _&&_, cond}
-use Rattle.laws.proofs.Choices.{by-test}
+use mathlib.Core.Path.{_≡_, refl, sym, _∙_}
+use mathlib.Core.Bool.{Bool, true, false, _&&_, cond}
+use Rattle.laws.proofs.Choices.{clash, by-test}
 use Rattle.device.specs.declared.Device.{Device}
 use Rattle.device.specs.declared.Event.{Event}
 use lib.ListN.{getD}
-use Rattle.device.specs.Ranges.{variantOf, rangedOf, operandsOf}
+use Rattle.device.specs.Ranges.{variantOf, rangedOf, operandsOf, secondOf}
 use Rattle.device.specs.Step.{stepOf}
 use Rattle.record.specs.declared.Record.the-variants.{Valid, Refused}
 use Rattle.record.specs.declared.Refusal.{Refusal}
-use Rattle.record.specs.declared.Refusal.the-variants.{Operand}
+use Rattle.record.specs.declared.Refusal.the-variants.{Kind, Operand}
 use Rattle.record.specs.Record.{decodeOf, codeOf, encodeOf}
-use Rattle.record.proofs.RoundTrip.{reads-back, reads-refused}
+use Rattle.record.proofs.RoundTrip.{reads-back, reads-refused, reads-unknown}
 use Rattle.bench_step.specs.declared.Answer.{Answer}
 use Rattle.bench_step.specs.BenchStep.{refusalOf, takenOf, stepBytesOf}
 
@@ -24,11 +24,11 @@ module _ (d : Device) (kind a b c : ℕ) where
   abbrev inRange : Bool
   inRange = variantOf (d .variant) && rangedOf d
 
-  pub is-step : (e : Event) → decodeOf kind a b c ≡ Valid e → stepBytesOf d kind a b c ≡ takenOf (stepOf d e)
+  pub is-step : (e : Event) → decodeOf 1 kind a b c ≡ Valid e → stepBytesOf d kind a b c ≡ takenOf (stepOf d e)
   unfolding stepBytesOf stepOf
   is-step e q = by-test inRange (λ r. simp (r, q)) (λ r. simp r)
 
-  pub is-refused : (why : Refusal) → decodeOf kind a b c ≡ Refused why → stepBytesOf d kind a b c ≡ refusalOf d (cond inRange (codeOf (Refused why)) 8)
+  pub is-refused : (why : Refusal) → decodeOf 1 kind a b c ≡ Refused why → stepBytesOf d kind a b c ≡ refusalOf d (cond inRange (codeOf (Refused why)) 8)
   unfolding stepBytesOf
   is-refused why q = by-test inRange (λ r. simp (r, q)) (λ r. simp r)
 
@@ -48,5 +48,9 @@ pub is-the-step : (d : Device) (e : Event)
     → stepBytesOf d (getD (encodeOf e) 0 0) (getD (encodeOf e) 1 0) (getD (encodeOf e) 2 0) (getD (encodeOf e) 3 0) ≡ takenOf (stepOf d e)
 unfolding stepOf codeOf
 is-the-step d e =
-    by-test (operandsOf e) (λ h. is-step d _ _ _ _ e (reads-back e h))
-    (λ h. is-refused d _ _ _ _ Operand (reads-refused e h) ∙ by-test (inRange d 0 0 0 0) (λ r. rw (r, h)) (λ r. rw r))
+    by-test (secondOf e)
+    (λ s. is-refused d _ _ _ _ Kind (reads-unknown 1 e s refl) ∙ by-test (inRange d 0 0 0 0) (λ r. rw (r, s)) (λ r. rw r))
+    (λ s.
+    let own : secondOf e ≡ true → 1 ≡ 2 = λ t. clash (sym s ∙ t) in
+    by-test (operandsOf e) (λ h. is-step d _ _ _ _ e (reads-back 1 e h own))
+    (λ h. is-refused d _ _ _ _ Operand (reads-refused 1 e h own) ∙ by-test (inRange d 0 0 0 0) (λ r. rw (r, s, h)) (λ r. rw r)))

@@ -1,5 +1,6 @@
 -- The bench's device, stepped by an event that is given as its record's four bytes, since an exported function takes no enum. On the
--- bytes of an event it is the step by value (proofs/Twin.antt: is-the-step); 3 is for bytes that are no event's.
+-- bytes of an event it is the step by value (proofs/Twin.antt: is-the-step); 3 is for bytes that are no event's, and for the second
+-- device's (request c).
 -- Assumes nothing.
 use Prim.Native.Nat.{ℕ}
 use mathlib.Core.Bool.{_&&_, cond}
@@ -26,9 +27,9 @@ abbrev pub onRecordOf : Device → Record → Taken
 onRecordOf d (Valid e) = takenOf (stepOf d e)
 onRecordOf d (Refused why) = refusalOf d (codeOf (Refused why))
 
--- 8 (for a variant of 0 too), then 3, then 4, else the step
+-- 8 (for a variant of 0 too), then 3, then 4, else the step; request c: read under a device count of 1, so that 08 and 09 are 3
 unfoldable pub stepBytesOf : Device → ℕ → ℕ → ℕ → ℕ → Taken
-stepBytesOf d kind a b c = cond (variantOf (d .variant) && rangedOf d) (onRecordOf d (decodeOf kind a b c)) (refusalOf d 8)
+stepBytesOf d kind a b c = cond (variantOf (d .variant) && rangedOf d) (onRecordOf d (decodeOf 1 kind a b c)) (refusalOf d 8)
 
 -- beside document 01: a device as after power-on; all zeros, whose first step gives 8, for a variant that is none of 1 to 3
 unfoldable pub powerOnOf : ℕ → Device

@@ -43,11 +43,11 @@ fn refused(d: Device, code: u8) -> Taken
     refusal(d, 8)
 }
 
-// One event, given as its record's four bytes, by value: 8, then 3, then 4, else 0.
+// One event, given as its record's four bytes, by value: 8, then 3, then 4, else 0. Under a device count of 1 kinds 08 and 09 are 3.
 pub fn step_bytes(d: Device, kind: u8, a: u8, b: u8, c: u8) -> Taken
     ensures { λ r. ⌜ r ≡ stepBytesOf d kind a b c ⌝ }
 {
-    let r = record::decode(kind, a, b, c);
+    let r = record::decode(1, kind, a, b, c);
     let Record::Valid(e) = r else {
         return refused(d, record::code(r));
     };

@@ -19,11 +19,11 @@ use Rattle.record.proofs.Writings.{one-writing}
 use Rattle.bench_write.specs.BenchWrite.{writeBytesOf, WroteBytes}
 
 module _ (kind a b c room : ℕ) where
-  pub is-event : (e : Event) → decodeOf kind a b c ≡ Valid e → writeBytesOf kind a b c room ≡ writeEventOf e room
+  pub is-event : (e : Event) → decodeOf 2 kind a b c ≡ Valid e → writeBytesOf kind a b c room ≡ writeEventOf e room
   unfolding writeBytesOf writeEventOf codeOf
-  is-event e q = let told = only-those kind a b c e q in rw (q, told .operands, ← (told .bytes))
+  is-event e q = let told = only-those 2 kind a b c e q in rw (q, told .operands, ← (told .bytes))
 
-  pub is-refused : (why : Refusal) → decodeOf kind a b c ≡ Refused why → writeBytesOf kind a b c room ≡ refuses (codeOf (Refused why))
+  pub is-refused : (why : Refusal) → decodeOf 2 kind a b c ≡ Refused why → writeBytesOf kind a b c room ≡ refuses (codeOf (Refused why))
   unfolding writeBytesOf codeOf
   is-refused Kind q = rw q
   is-refused Operand q = rw q
@@ -31,17 +31,18 @@ module _ (kind a b c room : ℕ) where
 -- ---- what the call returns
 
 module _ (kind a b c : ℕ) {entry : List ℕ} where
-  pub refused : (why : Refusal) → decodeOf kind a b c ≡ Refused why → WroteBytes kind a b c (codeOf (Refused why)) entry entry
+  pub refused : (why : Refusal) → decodeOf 2 kind a b c ≡ Refused why → WroteBytes kind a b c (codeOf (Refused why)) entry entry
   refused why q = rw (is-refused kind a b c (length entry) why q) (record { told = refl; buffer = refl })
 
-  pub written : {code : ℕ} {exit : List ℕ} (e : Event) → decodeOf kind a b c ≡ Valid e → WroteEvent e code entry exit → WroteBytes kind a b c code entry exit
+  pub written : {code : ℕ} {exit : List ℕ} (e : Event) → decodeOf 2 kind a b c ≡ Valid e → WroteEvent e code entry exit → WroteBytes kind a b c code entry exit
   written e q w = rw (is-event kind a b c (length entry) e q) w
 
 pub is-the-writer : (e : Event) (room : ℕ)
     → writeBytesOf (getD (encodeOf e) 0 0) (getD (encodeOf e) 1 0) (getD (encodeOf e) 2 0) (getD (encodeOf e) 3 0) room ≡ writeEventOf e room
 unfolding writeEventOf codeOf
 is-the-writer e room =
-    by-test (operandsOf e) (λ h. is-event _ _ _ _ room e (reads-back e h)) (λ h. is-refused _ _ _ _ room Operand (reads-refused e h) ∙ rw h)
+    by-test (operandsOf e) (λ h. is-event _ _ _ _ room e (reads-back 2 e h (λ _. refl)))
+    (λ h. is-refused _ _ _ _ room Operand (reads-refused 2 e h (λ _. refl)) ∙ rw h)
 
 pub one-record : (kind a b c : ℕ) {code code′ : ℕ} {entry exit exit′ : List ℕ}
     → WroteBytes kind a b c code entry exit → WroteBytes kind a b c code′ entry exit′ → (code ≡ code′) × (exit ≡ exit′)

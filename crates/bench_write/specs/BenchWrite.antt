@@ -9,9 +9,9 @@ use lib.ListN.{length}
 use Rattle.record.specs.Record.{decodeOf, codeOf}
 use Rattle.record.specs.Writer.{Writing, writes, refuses, Wrote}
 
--- the record's own code: 3 for a kind that is not 01 to 07, then 4 for an operand outside the table, else 0
+-- the record's own code, request c: as under a device count of 2: 3 for a kind that is not 01 to 09, then 4 for an operand outside the table, else 0
 abbrev pub judgedOf : ℕ → ℕ → ℕ → ℕ → ℕ
-judgedOf kind a b c = codeOf (decodeOf kind a b c)
+judgedOf kind a b c = codeOf (decodeOf 2 kind a b c)
 
 -- that, then 7 for fewer than four bytes of room, else these four bytes
 unfoldable pub writeBytesOf : ℕ → ℕ → ℕ → ℕ → ℕ → Writing

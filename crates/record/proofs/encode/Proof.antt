@@ -25,6 +25,12 @@ enum-known-e-6 c = search needs
 enum-told : tie.Need-enum-told
 enum-told c = search needs
 
+enum-known-e-7 : tie.Need-enum-known-e-7
+enum-known-e-7 c = search needs
+
+enum-known-e-8 : tie.Need-enum-known-e-8
+enum-known-e-8 c = search needs
+
 returns : tie.Need-returns
 unfolding encodeOf
 returns c = rw (c .before .e .given .1)
@@ -53,6 +59,14 @@ returns-7 : tie.Need-returns-7
 unfolding encodeOf
 returns-7 c = rw (c .enum-told .given .1)
 
+returns-8 : tie.Need-returns-8
+unfolding encodeOf
+returns-8 c = rw (c .before .e7 .given .1)
+
+returns-9 : tie.Need-returns-9
+unfolding encodeOf
+returns-9 c = rw (c .before .e8 .given .1)
+
 pub encode-spec : {M : Type 1} → statement M
 encode-spec =
     tie.close
@@ -64,10 +78,14 @@ encode-spec =
     enum-known-e-5
     enum-known-e-6
     enum-told
+    enum-known-e-7
+    enum-known-e-8
     returns
     returns-2
     returns-3
     returns-4
     returns-5
     returns-6
-    returns-7)
+    returns-7
+    returns-8
+    returns-9)

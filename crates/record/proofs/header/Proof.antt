@@ -1,25 +1,35 @@
 -- Assumes nothing.
 use borrow.Author.Needs.{needs}
-use Rattle.record.specs.Writer.{headerOf}
-use mathlib.Core.Path.{refl}
+use Rattle.record.specs.Writer.{countBytesOf, headerOf}
 use Rattle.record.proofs.header.Statement.{statement}
 use Rattle.record.proofs.header.Tie as tie
 
-cast-t5 : tie.Need-cast-t5
-cast-t5 c = search needs
+count-bytes-requires : tie.Need-count-bytes-requires
+count-bytes-requires c κs = search needs
 
-cast-t8 : tie.Need-cast-t8
-cast-t8 c = search needs
+array-read-t7 : tie.Need-array-read-t7
+array-read-t7 c = search needs
 
-cast-t11 : tie.Need-cast-t11
-cast-t11 c = search needs
+array-read-t10 : tie.Need-array-read-t10
+array-read-t10 c = search needs
 
-cast-t13 : tie.Need-cast-t13
-cast-t13 c = search needs
+array-read-t13 : tie.Need-array-read-t13
+array-read-t13 c = search needs
+
+array-read-t16 : tie.Need-array-read-t16
+array-read-t16 c = search needs
 
 returns : tie.Need-returns
-unfolding headerOf
-returns c = refl
+unfolding headerOf countBytesOf
+returns c = rw (c .count-bytes .ensures)
 
 pub header-spec : {M : Type 1} → statement M
-header-spec = tie.close (tie.spec cast-t5 cast-t8 cast-t11 cast-t13 returns)
+header-spec =
+    tie.close
+    (tie.spec
+    count-bytes-requires
+    array-read-t7
+    array-read-t10
+    array-read-t13
+    array-read-t16
+    returns)
