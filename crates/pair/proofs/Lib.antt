@@ -1,0 +1,5 @@
+pub mod Trailing
+pub mod JoinedByte
+pub mod AtHand
+pub mod Kept
+pub mod Heading
