@@ -6,23 +6,27 @@ use mathlib.Core.Bool.{true, false, _||_, _&&_, or-true, or-false}
 use mathlib.Core.List.{[], _∷_}
 use native.Mathlib.Omega.{arith}
 use lib.Dec.{ltb, leb, eqb}
-use borrow.Author.Tests.{ltb-true, ltb-false, leb-true, eqb-true, lt-ltb, le-ltb, le-leb, eq-eqb, ne-eqb}
+use borrow.Author.Tests.{ltb-true, ltb-false, leb-true, eqb-true, eqb-false, lt-ltb, le-ltb, le-leb, eq-eqb, ne-eqb}
 use lib.ListN.{getD}
 use lib.Seq.{getD-set-other}
 use Rattle.laws.proofs.Choices.{cond-ind, by-test}
+use Rattle.device.specs.Bus.{poweredOf}
 use Rattle.device.specs.Ranges.{allTrue, variantOf}
 use Rattle.device.proofs.Tests.{each, of-each}
 use Rattle.record.specs.declared.Record.{Record}
 use Rattle.record.specs.declared.Record.the-variants.{Valid, Refused}
 use Rattle.record.specs.declared.Refusal.the-variants.{Kind, Operand}
 use Rattle.record.specs.Record.{decodeOf, codeOf}
+use Rattle.pair.specs.declared.Bus.{Bus}
+use Rattle.pair.specs.Bus.{placedOf, countedBus, countPlace, headerLength, answersOf}
+use Rattle.pair.specs.Ranges.{busRangesOf}
+use Rattle.pair.proofs.Kept.{same-count, bus-kept}
+use Rattle.pair.proofs.Heading.{few-devices, opened, first-taken, second-taken, later}
 use Rattle.capture.specs.declared.Reader.{Reader}
-use Rattle.capture.specs.Sensor.{Sensor, countPlace, headerLength, sensorRanges, sensorPowered, sensorEffect}
-use Rattle.capture.specs.Reader.{withCount, withDevice, holdOf, betweenOf, headerLengthOf, inHeader, headerDone, countTaken, limitOf}
-use Rattle.capture.specs.Reader.{placeTests, placeOf, rangesOf, Turn, headTakenOf, openedOf, variantTakenOf, countedOf}
-use Rattle.capture.specs.Reader.{carryOf, judgedOf, headOf, recordOf, turnOf}
+use Rattle.capture.specs.Reader.{withCount, withBus, holdOf, betweenOf, headerLengthOf, inHeader, headerDone, countTaken, limitOf}
+use Rattle.capture.specs.Reader.{placeTests, placeOf, heldTest, rangesOf, Turn, headTakenOf, openedOf, secondVariant, variantTakenOf, oneAddress}
+use Rattle.capture.specs.Reader.{countedOf, carryOf, judgedOf, headOf, recordOf, turnOf}
 use Rattle.capture.proofs.Limits.{limit-small, limit-all, limit-next}
-use Rattle.capture.proofs.Sensors.{powered-devices, effect-devices, early-ranges, powered-ranges, later-ranges, effect-ranges}
 
 -- ---- the tests of a state
 
@@ -66,24 +70,28 @@ of-places s p =
 
 pub record Ranges (s : Reader) : Type 0 where
   pub place : Places s
-  pub held : leb (s .held) 5 ≡ true
-  pub sensor : sensorRanges (s .head) (s .device) ≡ true
+  pub held : heldTest (s .held) ≡ true
+  pub bus : busRangesOf (s .head) (s .bus) ≡ true
 
 pub ranges : (s : Reader) → rangesOf s ≡ true → Ranges s
 unfolding rangesOf placeOf
 ranges s h =
-    let t = each (allTrue (placeTests s) ∷ leb (s .held) 5 ∷ sensorRanges (s .head) (s .device) ∷ []) h in
-    record { place = places s (t .0); held = t .1 .0; sensor = t .1 .1 .0 }
+    let t = each (allTrue (placeTests s) ∷ heldTest (s .held) ∷ busRangesOf (s .head) (s .bus) ∷ []) h in
+    record { place = places s (t .0); held = t .1 .0; bus = t .1 .1 .0 }
 
 of-ranges : (s : Reader) → Ranges s → rangesOf s ≡ true
 unfolding rangesOf placeOf
 of-ranges s r =
-    of-each (allTrue (placeTests s) ∷ leb (s .held) 5 ∷ sensorRanges (s .head) (s .device) ∷ [])
-    (of-places s (r .place), (r .held, (r .sensor, tt)))
+    of-each (allTrue (placeTests s) ∷ heldTest (s .held) ∷ busRangesOf (s .head) (s .bus) ∷ [])
+    (of-places s (r .place), (r .held, (r .bus, tt)))
 
 module _ (s : Reader) (h : rangesOf s ≡ true) where
   pub below-limit : s .count < limitOf (countTaken s)
   below-limit = ltb-true _ _ (ranges s h .place .count)
+
+  -- a header has seven bytes at most
+  pub short-header : headerLengthOf s ≤ 7
+  short-header = omega (arith, few-devices (s .head) (s .bus) (ranges s h .bus))
 
   -- in the header nothing is carried and nothing is done
   pub idle : s .head < headerLengthOf s → eqb (s .carried) 0 ≡ true
@@ -107,7 +115,7 @@ count-fits s h = omega (arith, below-limit s h, limit-all (countTaken s))
 
 -- ---- each way of a byte
 
-hold-ranges : (s : Reader) (code : ℕ) → rangesOf s ≡ true → leb code 5 ≡ true → rangesOf (holdOf s code) ≡ true
+hold-ranges : (s : Reader) (code : ℕ) → rangesOf s ≡ true → heldTest code ≡ true → rangesOf (holdOf s code) ≡ true
 hold-ranges s code h l =
     let r = ranges s h in
     let p = r .place in
@@ -125,7 +133,7 @@ hold-ranges s code h l =
         begun = p .begun;
       };
       held = l;
-      sensor = r .sensor;
+      bus = r .bus;
     })
 
 module _ (s : Reader) (b : ℕ) (small : b < 256) (h : rangesOf s ≡ true) where
@@ -135,14 +143,14 @@ module _ (s : Reader) (b : ℕ) (small : b < 256) (h : rangesOf s ≡ true) wher
   p : Places s
   p = r .place
 
-  -- one more header byte, with this count and this device
-  header-ranges : (count : ℕ) (d : Sensor) → s .head < headerLengthOf s → s .head < headerLength d → count < limitOf (s .head + 1 - countPlace d)
-      → sensorRanges (s .head + 1) d ≡ true → rangesOf (withDevice (withCount (headTakenOf s) count) d) ≡ true
-  header-ranges count d l m c k =
-      of-ranges (withDevice (withCount (headTakenOf s) count) d)
+  -- one more header byte, with this count and this bus
+  header-ranges : (count : ℕ) (p′ : Bus) → s .head < headerLengthOf s → s .head < headerLength p′ → count < limitOf (s .head + 1 - countPlace p′)
+      → busRangesOf (s .head + 1) p′ ≡ true → rangesOf (withBus (withCount (headTakenOf s) count) p′) ≡ true
+  header-ranges count p′ l m c k =
+      of-ranges (withBus (withCount (headTakenOf s) count) p′)
       (record {
         place = record {
-          head = le-leb (s .head + 1) (headerLength d) (omega arith);
+          head = le-leb (s .head + 1) (headerLength p′) (omega arith);
           few = p .few;
           carrying = simp (idle s h l);
           first = p .first;
@@ -153,32 +161,42 @@ module _ (s : Reader) (b : ℕ) (small : b < 256) (h : rangesOf s ≡ true) wher
           begun = simp (none s h l, or-true);
         };
         held = r .held;
-        sensor = k;
+        bus = k;
       })
 
   -- before the record count no byte of it is taken
   uncounted : (k : ℕ) → countTaken s ≡ 0 → k ≡ 0 → s .count < limitOf k
   uncounted k t z = rw (t ∙ sym z) at (below-limit s h)
 
-  opened-ranges : s .head ≡ 0 → rangesOf (openedOf s) ≡ true
-  opened-ranges z =
-      header-ranges (s .count) (s .device) (omega arith) (omega arith)
-      (uncounted (s .head + 1 - countPlace (s .device)) (omega arith) (omega arith))
-      (rw z (early-ranges (s .head) (s .device) (r .sensor)))
+  opened-ranges : s .head ≡ 0 → (eqb b 1 || eqb b 2) ≡ true → rangesOf (openedOf s b) ≡ true
+  opened-ranges z e =
+      let next : s .head + 1 ≡ 1 = omega (arith, z) in
+      header-ranges (s .count) (countedBus (s .bus) b) (omega arith) (omega arith)
+      (uncounted (s .head + 1 - countPlace (countedBus (s .bus) b)) (omega arith) (omega arith))
+      (rw next (opened (s .head) (s .bus) (r .bus) z b e))
 
-  variant-ranges : s .head < countPlace (s .device) → variantOf b ≡ true → rangesOf (variantTakenOf s b) ≡ true
-  variant-ranges l e =
-      let same = powered-devices (s .device) b in
-      header-ranges (s .count) (sensorPowered b) (omega arith) (omega arith)
-      (uncounted (s .head + 1 - countPlace (sensorPowered b)) (omega arith) (omega arith))
-      (powered-ranges (s .head + 1) b e)
+  variant-ranges : 1 ≤ s .head → s .head < countPlace (s .bus) → variantOf b ≡ true → oneAddress s b ≡ false → rangesOf (variantTakenOf s b) ≡ true
+  variant-ranges n l e f =
+      header-ranges (s .count) (placedOf (s .bus) (secondVariant s) (poweredOf b)) (omega arith) (omega arith)
+      (uncounted (s .head + 1 - countPlace (s .bus)) (omega arith) (omega arith))
+      (by-test (ltb 1 (s .head))
+      (λ t.
+      let more : 1 < s .head = ltb-true 1 (s .head) t in
+      let z : s .head ≡ 2 = omega (arith, more, l, few-devices (s .head) (s .bus) (r .bus)) in
+      let next : s .head + 1 ≡ 3 = omega (arith, z) in
+      let two : s .bus .devices ≡ 2 = omega (arith, z, l, few-devices (s .head) (s .bus) (r .bus)) in
+      rw (t, next) (second-taken (s .head) (s .bus) (r .bus) z (eq-eqb _ _ two) b e (rw t at f)))
+      (λ t.
+      let z : s .head ≡ 1 = omega (arith, n, ltb-false 1 (s .head) t) in
+      let next : s .head + 1 ≡ 2 = omega (arith, z) in
+      rw (t, next) (first-taken (s .head) (s .bus) (r .bus) z b e)))
 
-  counted-ranges : countPlace (s .device) ≤ s .head → s .head < headerLengthOf s → rangesOf (countedOf s b) ≡ true
+  counted-ranges : countPlace (s .bus) ≤ s .head → s .head < headerLengthOf s → rangesOf (countedOf s b) ≡ true
   counted-ranges m l =
-      let next : s .head + 1 - countPlace (s .device) ≡ countTaken s + 1 = omega arith in
-      header-ranges (s .count * 256 + b) (s .device) l l
+      let next : s .head + 1 - countPlace (s .bus) ≡ countTaken s + 1 = omega arith in
+      header-ranges (s .count * 256 + b) (s .bus) l l
       (rw next (limit-next (countTaken s) (omega arith) (s .count) b (below-limit s h) small))
-      (later-ranges (s .head) (s .device) (r .sensor) (s .head + 1) m)
+      (later (s .head) (s .bus) (r .bus) m (omega (arith, m)))
 
   unused : (i : ℕ) → Unused s i → Unused (carryOf s b) i
   unused i u = by-test (ltb i (s .carried + 1)) (λ e. simp e) (λ e.
@@ -201,17 +219,17 @@ module _ (s : Reader) (b : ℕ) (small : b < 256) (h : rangesOf s ≡ true) wher
           begun = p .begun;
         };
         held = r .held;
-        sensor = r .sensor;
+        bus = r .bus;
       })
 
-  -- a record done, with this device
-  done-ranges : (d : Sensor) → s .head ≡ headerLength d → s .done < s .count → countPlace d ≡ countPlace (s .device)
-      → sensorRanges (s .head) d ≡ true → rangesOf (betweenOf s (s .done + 1) d) ≡ true
-  done-ranges d z l c k =
-      of-ranges (betweenOf s (s .done + 1) d)
+  -- a record done, with this bus
+  done-ranges : (p′ : Bus) → s .head ≡ headerLength p′ → s .done < s .count → countPlace p′ ≡ countPlace (s .bus)
+      → busRangesOf (s .head) p′ ≡ true → rangesOf (betweenOf s (s .done + 1) p′) ≡ true
+  done-ranges p′ z l c k =
+      of-ranges (betweenOf s (s .done + 1) p′)
       (record {
         place = record {
-          head = le-leb (s .head) (headerLength d) (omega arith);
+          head = le-leb (s .head) (headerLength p′) (omega arith);
           few = refl;
           carrying = refl;
           first = refl;
@@ -219,17 +237,17 @@ module _ (s : Reader) (b : ℕ) (small : b < 256) (h : rangesOf s ≡ true) wher
           third = refl;
           count = ap (λ (n : ℕ). ltb (s .count) (limitOf (s .head - n))) c ∙ p .count;
           done = le-leb (s .done + 1) (s .count) (omega arith);
-          begun = simp (eq-eqb (s .head) (headerLength d) z);
+          begun = simp (eq-eqb (s .head) (headerLength p′) z);
         };
         held = r .held;
-        sensor = k;
+        bus = k;
       })
 
   judged-ranges : s .head ≡ headerLengthOf s → s .done < s .count → (q : Record) → rangesOf (judgedOf s q .reader) ≡ true
   unfolding codeOf
   judged-ranges z l (Valid e) =
-      let same = effect-devices (s .device) e in
-      done-ranges (sensorEffect (s .device) e .sensor) (omega arith) l (omega arith) (effect-ranges (s .head) (s .device) (r .sensor) e)
+      let same = same-count (s .bus) e in
+      done-ranges (answersOf (s .bus) e .bus) (omega arith) l (omega arith) (bus-kept (s .head) (s .bus) e (omega (arith, z)) (r .bus))
   judged-ranges z l (Refused Kind) = hold-ranges s 3 h refl
   judged-ranges z l (Refused Operand) = hold-ranges s 4 h refl
 
@@ -243,9 +261,13 @@ module _ (s : Reader) (b : ℕ) (small : b < 256) (h : rangesOf s ≡ true) wher
   unfolding headOf Good
   head-ranges l =
       cond-ind Good (eqb (s .head) 0)
-      (λ z. cond-ind Good (eqb b 1) (λ _. opened-ranges (eqb-true _ _ z)) (λ _. hold-ranges s 1 h refl))
-      (λ n. cond-ind Good (ltb (s .head) (countPlace (s .device)))
-      (λ m. cond-ind Good (variantOf b) (λ e. variant-ranges (ltb-true _ _ m) e) (λ _. hold-ranges s 2 h refl))
+      (λ z. cond-ind Good (eqb b 1 || eqb b 2) (λ e. opened-ranges (eqb-true _ _ z) e) (λ _. hold-ranges s 1 h refl))
+      (λ n. cond-ind Good (ltb (s .head) (countPlace (s .bus)))
+      (λ m. cond-ind Good (variantOf b)
+      (λ e. cond-ind Good (oneAddress s b)
+      (λ _. hold-ranges s 9 h refl)
+      (λ f. variant-ranges (omega (arith, eqb-false (s .head) 0 n)) (ltb-true _ _ m) e f))
+      (λ _. hold-ranges s 2 h refl))
       (λ m. counted-ranges (ltb-false _ _ m) l))
 
   pub turn-ranges : rangesOf (turnOf s b .reader) ≡ true
@@ -257,6 +279,6 @@ module _ (s : Reader) (b : ℕ) (small : b < 256) (h : rangesOf s ≡ true) wher
       (λ l. cond-ind Kept (ltb (s .done) (s .count))
       (λ d. cond-ind Kept (ltb (s .carried) 3)
       (λ k. carry-ranges (completed s h l) (ltb-true _ _ d) (ltb-true _ _ k))
-      (λ _. judged-ranges (completed s h l) (ltb-true _ _ d) (decodeOf _ _ _ b)))
+      (λ _. judged-ranges (completed s h l) (ltb-true _ _ d) (decodeOf _ _ _ _ b)))
       (λ _. hold-ranges s 5 h refl)))
       (λ _. h)

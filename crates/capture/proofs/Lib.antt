@@ -1,4 +1,3 @@
-pub mod Sensors
 pub mod Turns
 pub mod Outcomes
 pub mod Limits

@@ -1,27 +1,34 @@
 -- The loop of `run`, as mathematics: a record judged and stepped, and the next one's first three bytes.
 -- Assumes nothing.
 use Prim.Native.Nat.{ℕ, suc, _+_, _-_, _*_, _^_, _≤_, _<_}
-use mathlib.Core.Path.{_≡_, refl, sym, ap, _∙_}
+use mathlib.Core.Path.{_≡_, refl, sym, ap, subst, _∙_}
 use mathlib.Core.List.{List, [], _∷_, _++_, append-nil}
-use mathlib.Core.Bool.{true, false, _&&_}
+use mathlib.Core.Bool.{Bool, true, false, _&&_}
 use native.Mathlib.Omega.{arith}
 use lib.Dec.{eqb, ltb}
+use lib.Bits.{bitOr}
 use lib.ListN.{length, getD, take, drop, length-append, length-drop}
 use lib.Seq.{drop-cons, length-take-le}
 use borrow.Author.Tests.{eqb-true, eqb-false, ltb-true, leb-true}
-use Rattle.laws.proofs.Choices.{and-left, and-right}
+use Rattle.laws.proofs.Choices.{by-test, and-left, and-right}
+use Rattle.device.specs.declared.Device.{Device}
+use Rattle.device.specs.declared.Outcome.{Outcome}
 use Rattle.device.specs.declared.Event.{Event}
+use Rattle.device.specs.Step.{effectOf, answerOf}
 use Rattle.record.specs.declared.Record.{Record}
 use Rattle.record.specs.declared.Record.the-variants.{Valid, Refused}
 use Rattle.record.specs.declared.Refusal.{Refusal}
 use Rattle.record.specs.declared.Refusal.the-variants.{Kind, Operand}
 use Rattle.record.specs.Record.{decodeOf, codeOf}
+use Rattle.pair.specs.declared.Bus.{Bus}
+use Rattle.pair.specs.declared.hand.Hand.{Hand}
+use Rattle.pair.specs.Bus.{pickedOf, placedOf, Answered, answersOf, headerLength}
+use Rattle.pair.specs.Hand.{namedAt, handOf, leavesOf, settledOf}
+use Rattle.pair.proofs.AtHand.{laidOf, Laid, second-of-two, placed-picked, hand-first, hand-next}
 use Rattle.capture.specs.declared.Reader.{Reader}
-use Rattle.capture.specs.Sensor.{Sensor, Answered, headerLength, sensorEffect}
 use Rattle.capture.specs.Reader.{withCarried, holdOf, betweenOf, headerLengthOf, headerDone, rangesOf}
 use Rattle.capture.specs.Reader.{quietOf, answeredOf, judgedOf, turnOf, feedOf, Out, joinOf, reportOf, Meets}
-use Rattle.capture.specs.Loops.{Going, Onward, waitsOf, carryingOf, uptoOf, Took}
-use Rattle.capture.proofs.Sensors.{effect-devices}
+use Rattle.capture.specs.Loops.{Going, Onward, waitsOf, carryingOf, uptoOf, Ready, Took}
 use Rattle.capture.proofs.Turns.{judged-turn}
 use Rattle.capture.proofs.InRange.{ranges, count-fits, turn-ranges}
 use Rattle.capture.proofs.Outcomes.{join-join}
@@ -64,14 +71,14 @@ three-eta (a ∷ b ∷ c ∷ d ∷ l) e = absurd (omega arith)
 
 -- such a state, told by its parts
 pub itself : (s : Reader) → AtFourth s → length (s .bytes) ≡ 3
-    → carryingOf s (s .done) (s .device) (getD (s .bytes) 0 0) (getD (s .bytes) 1 0) (getD (s .bytes) 2 0) ≡ s
+    → carryingOf s (s .done) (s .bus) (getD (s .bytes) 0 0) (getD (s .bytes) 1 0) (getD (s .bytes) 2 0) ≡ s
 itself s w e = λ i. withCarried s (sym (w .carried) i) (three-eta (s .bytes) e i)
 
 -- ---- that byte
 
 module _ (s : Reader) (w : AtFourth s) (c : ℕ) where
   abbrev pub recordAt : Record
-  recordAt = decodeOf (getD (s .bytes) 0 0) (getD (s .bytes) 1 0) (getD (s .bytes) 2 0) c
+  recordAt = decodeOf (s .bus .devices) (getD (s .bytes) 0 0) (getD (s .bytes) 1 0) (getD (s .bytes) 2 0) c
 
   judged : turnOf s c ≡ judgedOf s recordAt
   judged = judged-turn s c (w .held) (w .head) (w .counted) (omega (arith, w .carried))
@@ -79,7 +86,7 @@ module _ (s : Reader) (w : AtFourth s) (c : ℕ) where
   refuses : (why : Refusal) → recordAt ≡ Refused why → turnOf s c ≡ quietOf (holdOf s (codeOf (Refused why)))
   refuses why q = judged ∙ ap (judgedOf s) q
 
-  takes : (e : Event) → recordAt ≡ Valid e → turnOf s c ≡ answeredOf s (sensorEffect (s .device) e)
+  takes : (e : Event) → recordAt ≡ Valid e → turnOf s c ≡ answeredOf s (answersOf (s .bus) e)
   takes e q = judged ∙ ap (judgedOf s) q
 
 lasting : (why : Refusal) → codeOf (Refused why) ≡ 0 → ⊥
@@ -102,8 +109,8 @@ module _ {o : Out} {input entry answers : List ℕ} {s : Reader} {at written : �
 
   -- a record taken, its pair behind the answers
   pub stepped : (e : Event) {after : List ℕ} → byte < 256 → recordAt s w byte ≡ Valid e → 2 ≤ length answers - written
-      → after ≡ take written answers ++ (sensorEffect (s .device) e .first ∷ sensorEffect (s .device) e .second ∷ drop 2 (drop written answers))
-      → Going o input entry after (betweenOf s (s .done + 1) (sensorEffect (s .device) e .sensor)) (at + 1) (written + 2)
+      → after ≡ take written answers ++ (answersOf (s .bus) e .first ∷ answersOf (s .bus) e .second ∷ drop 2 (drop written answers))
+      → Going o input entry after (betweenOf s (s .done + 1) (answersOf (s .bus) e .bus)) (at + 1) (written + 2)
   stepped e small q n k =
       let turn = takes s w byte e q in
       paired g l (sym turn) (rw turn at (turn-ranges s byte small (g .ok))) (w .held) refl n k
@@ -120,38 +127,47 @@ three-bytes l at h =
     ∙ ap (λ (r : List ℕ). getD l at 0 ∷ r)
     (drop-cons l (suc at) 0 (omega arith) ∙ ap (λ (r : List ℕ). getD l (suc at) 0 ∷ r) (drop-cons l (suc (suc at)) 0 (omega arith))))
 
-pub next-three : {o : Out} {input entry answers : List ℕ} (s : Reader) (done : ℕ) (device : Sensor) {at written : ℕ}
-    → ((i : ℕ) → getD input i 0 < 256) → s .held ≡ 0 → s .head ≡ headerLength device → done < s .count → at + 4 ≤ length input
-    → Going o input entry answers (betweenOf s done device) at written
-    → Going o input entry answers (carryingOf s done device (getD input at 0) (getD input (at + 1) 0) (getD input (at + 2) 0)) (at + 3) written
-next-three {o} {input} {entry} {answers} s done device {at} {written} small z h d l g =
+pub next-three : {o : Out} {input entry answers : List ℕ} (s : Reader) (done : ℕ) (bus : Bus) {at written : ℕ}
+    → ((i : ℕ) → getD input i 0 < 256) → s .held ≡ 0 → s .head ≡ headerLength bus → done < s .count → at + 4 ≤ length input
+    → Going o input entry answers (betweenOf s done bus) at written
+    → Going o input entry answers (carryingOf s done bus (getD input at 0) (getD input (at + 1) 0) (getD input (at + 2) 0)) (at + 3) written
+next-three {o} {input} {entry} {answers} s done bus {at} {written} small z h d l g =
     let a = getD input at 0 in
     let b = getD input (at + 1) 0 in
     let c = getD input (at + 2) 0 in
-    let rest = feedOf (carryingOf s done device a b c) (drop (at + 3) input) (length entry - written) in
+    let rest = feedOf (carryingOf s done bus a b c) (drop (at + 3) input) (length entry - written) in
     record {
-      ok = three-ranges s done device z h d a b c (small at) (small (at + 1)) (small (at + 2)) (g .ok);
+      ok = three-ranges s done bus z h d a b c (small at) (small (at + 1)) (small (at + 2)) (g .ok);
       within = omega arith;
       room = g .room;
       long = g .long;
       rest = g .rest;
       same =
           g .same
-          ∙ ap (λ (l : List ℕ). joinOf at (take written answers) (feedOf (betweenOf s done device) l (length entry - written)))
+          ∙ ap (λ (l : List ℕ). joinOf at (take written answers) (feedOf (betweenOf s done bus) l (length entry - written)))
           (three-bytes input at (omega arith))
-          ∙ ap (joinOf at (take written answers)) (three-ahead s done device z h d a b c (drop (at + 3) input) (length entry - written))
+          ∙ ap (joinOf at (take written answers)) (three-ahead s done bus z h d a b c (drop (at + 3) input) (length entry - written))
           ∙ join-join at 3 (take written answers) [] rest
           ∙ ap (λ (l : List ℕ). joinOf (at + 3) l rest) (append-nil (take written answers));
     }
 
 -- ---- the loop
 
--- what is known at its head, where so many records are left: each is counted, whole in the input, and has room
+-- the device that a state's record is of, and what is known of the other
+abbrev pub handAt : Reader → Hand
+handAt s = handOf (s .bus) (getD (s .bytes) 0 0) (getD (s .bytes) 1 0)
+
+-- the bus with this device put back
+abbrev pub busWith : Reader → Device → Bus
+busWith s device = placedOf (s .bus) (handAt s .second) device
+
+-- what is known at its head, where so many records are left: each is counted, whole in the input, and has room; the one at hand is the device's own
 pub record Running (s : Reader) (input before : List ℕ) (from start : ℕ)
-    (answers : List ℕ) (kind a b : ℕ) (device : Sensor) (done at written left : ℕ) : Type 0 where
+    (answers : List ℕ) (kind a b : ℕ) (device : Device) (done at written left : ℕ) : Type 0 where
   pub waits : AtFourth s
-  pub complete : s .head ≡ headerLength device
-  pub onward : Onward input before s from start answers (carryingOf s done device kind a b) at written
+  pub onward : Onward input before s from start answers (carryingOf s done (busWith s device) kind a b) at written
+  pub own : (c : ℕ) (e : Event) → decodeOf (s .bus .devices) kind a b c ≡ Valid e → Laid (s .bus) (handAt s) device e
+  pub once : handAt s .restart ≡ true → left ≡ 1
   pub forward : from ≤ at
   pub some : 1 ≤ left
   pub counted : done + left ≤ s .count
@@ -162,43 +178,63 @@ pub record Running (s : Reader) (input before : List ℕ) (from start : ℕ)
   pub answers-fit : length before < 2 ^ 64
   pub count-fits : s .count < 2 ^ 32
 
-pub run-start : (s : Reader) (input before : List ℕ) (from start : ℕ) → rangesOf s ≡ true → waitsOf s ≡ true → length (s .bytes) ≡ 3
-    → from < length input → start + 2 ≤ length before → length input < 2 ^ 64 → length before < 2 ^ 64
-    → Running s input before from start before (getD (s .bytes) 0 0) (getD (s .bytes) 1 0) (getD (s .bytes) 2 0) (s .device) (s .done) from start
-    (uptoOf (s .count - s .done) (length input - from) (length before - start))
-run-start s input before from start r w e l n f h =
-    let k = waiting s r w in
+-- the records that can be taken are one at least, and no more than are counted, whole and with room
+record Upto (counted bytes room left : ℕ) : Type 0 where
+  some : 1 ≤ left
+  few : left ≤ counted
+  whole : 4 * left ≤ bytes + 3
+  lent : 2 * left ≤ room
+
+upto : (restart : Bool) (counted bytes room : ℕ) → 1 ≤ counted → 1 ≤ bytes → 2 ≤ room → Upto counted bytes room (uptoOf restart counted bytes room)
+upto true counted bytes room c b r = record { some = omega arith; few = c; whole = omega arith; lent = r }
+upto false counted bytes room c b r = record { some = omega arith; few = omega arith; whole = omega arith; lent = omega arith }
+
+pub run-start : (s : Reader) (input before : List ℕ) (from start : ℕ) → Ready s input from before start → length (s .bytes) ≡ 3
+    → length input < 2 ^ 64 → length before < 2 ^ 64
+    → Running s input before from start before (getD (s .bytes) 0 0) (getD (s .bytes) 1 0) (getD (s .bytes) 2 0)
+    (pickedOf (s .bus) (handAt s .second)) (s .done) from start
+    (uptoOf (handAt s .restart) (s .count - s .done) (length input - from) (length before - start))
+run-start s input before from start r e f h =
+    let k = waiting s (r .ok) (r .waits) in
+    let u = upto (handAt s .restart) (s .count - s .done) (length input - from) (length before - start)
+    (omega (arith, k .counted)) (omega (arith, r .within)) (omega (arith, r .room))
+    in
     record {
       waits = k;
-      complete = k .head;
-      onward = λ o entry g. rw (itself s k e) g;
+      onward = λ o entry g. rw (placed-picked (s .bus) (handAt s .second), itself s k e) g;
+      own = hand-first (s .bus) (getD (s .bytes) 0 0) (getD (s .bytes) 1 0) (getD (s .bytes) 2 0);
+      once = λ t. rw t;
       forward = omega arith;
-      some = omega (arith, k .counted);
-      counted = omega (arith, k .counted);
-      whole = omega arith;
-      room = omega arith;
+      some = u .some;
+      counted = omega (arith, k .counted, u .few);
+      whole = omega (arith, r .within, u .whole);
+      room = omega (arith, r .room, u .lent);
       long = refl;
       input-fits = f;
       answers-fit = h;
-      count-fits = count-fits s r;
+      count-fits = count-fits s (r .ok);
     }
 
--- once a record is stepped and its pair stored: as it leaves, and as it goes on
+-- once a record is stepped and its pair stored: the last of those left; or, with the next one's three bytes, as it leaves and as it goes on
 pub record Stepped (s : Reader) (input before : List ℕ) (from start : ℕ)
-    (answers after : List ℕ) (device : Sensor) (done at written left : ℕ) : Type 0 where
+    (answers after : List ℕ) (device : Device) (done at written left : ℕ) : Type 0 where
   pub long : length after ≡ length answers
-  pub leaves : Took input before s from start after (reportOf 0 (at + 1) (written + 2) (betweenOf s (done + 1) device))
-  pub again : 1 < left
+  pub last : Took input before s from start after
+      (reportOf 0 (at + 1) (written + 2) (betweenOf s (done + 1) (placedOf (settledOf (s .bus) (handAt s .restart)) (handAt s .second) device)))
+  pub leaves : 1 < left → Took input before s from start after
+      (reportOf 0 (at + 1 + 3) (written + 2)
+      (carryingOf s (done + 1) (busWith s device) (getD input (at + 1) 0) (getD input (at + 1 + 1) 0) (getD input (at + 1 + 2) 0)))
+  pub again : 1 < left → leavesOf (handAt s) (getD input (at + 1) 0) (getD input (at + 1 + 1) 0) ≡ false
       → Running s input before from start after (getD input (at + 1) 0) (getD input (at + 1 + 1) 0) (getD input (at + 1 + 2) 0)
       device (done + 1) (at + 1 + 3) (written + 2) (left - 1)
 
-module _ {s : Reader} {input before : List ℕ} {from start : ℕ} {answers : List ℕ} {kind a b : ℕ} {device : Sensor} {done at written left : ℕ}
+module _ {s : Reader} {input before : List ℕ} {from start : ℕ} {answers : List ℕ} {kind a b : ℕ} {device : Device} {done at written left : ℕ}
     (r : Running s input before from start answers kind a b device done at written left) where
   abbrev state : Reader
-  state = carryingOf s done device kind a b
+  state = carryingOf s done (busWith s device) kind a b
 
   here : AtFourth state
-  here = record { held = r .waits .held; head = r .complete; carried = refl; counted = omega (arith, r .some, r .counted) }
+  here = record { held = r .waits .held; head = r .waits .head; carried = refl; counted = omega (arith, r .some, r .counted) }
 
   -- of those left, the one at hand: its fourth byte is there, and so is its room
   inside : at < length input
@@ -207,7 +243,7 @@ module _ {s : Reader} {input before : List ℕ} {from start : ℕ} {answers : Li
   lent : written + 2 ≤ length answers
   lent = omega (arith, r .some, r .room)
 
-  pub run-refused : (why : Refusal) → decodeOf kind a b (getD input at 0) ≡ Refused why
+  pub run-refused : (why : Refusal) → decodeOf (s .bus .devices) kind a b (getD input at 0) ≡ Refused why
       → Took input before s from start answers (reportOf (codeOf (Refused why)) at written (holdOf state (codeOf (Refused why))))
   run-refused why q = record {
     onward = λ z. absurd (lasting why z);
@@ -215,32 +251,52 @@ module _ {s : Reader} {input before : List ℕ} {from start : ℕ} {answers : Li
     ends = λ x o entry g. ends-refused here (r .onward o entry g) inside why q;
   }
 
+  -- both restart: no other record is left
+  no-restart : 1 < left → handAt s .restart ≡ false
+  no-restart n = by-test (handAt s .restart) (λ t. absurd (omega (arith, n, r .once t))) (λ f. f)
+
   -- a record that is an event, its pair laid behind the answers
-  module _ (small : (i : ℕ) → getD input i 0 < 256) (e : Event) (q : decodeOf kind a b (getD input at 0) ≡ Valid e) {after : List ℕ}
-      (laid : after ≡ take written answers ++ (sensorEffect device e .first ∷ sensorEffect device e .second ∷ drop 2 (drop written answers))) where
-    abbrev next : Sensor
-    next = sensorEffect device e .sensor
+  module _ (small : (i : ℕ) → getD input i 0 < 256) (e : Event) (q : decodeOf (s .bus .devices) kind a b (getD input at 0) ≡ Valid e)
+      (o : Outcome) (did : o ≡ effectOf device e) {after : List ℕ}
+      (laid : after ≡ take written answers ++ (bitOr (answerOf o) (handAt s .lines) ∷ o .byte ∷ drop 2 (drop written answers))) where
+    abbrev put : Bus
+    put = placedOf (settledOf (s .bus) (handAt s .restart)) (handAt s .second) (o .device)
 
-    done-one : Onward input before s from start after (betweenOf s (done + 1) next) (at + 1) (written + 2)
-    done-one o entry g = stepped here (r .onward o entry g) inside e (small at) q (omega (arith, lent)) laid
+    answered : answersOf (busWith s device) e ≡ laidOf (s .bus) (handAt s) o
+    answered = r .own (getD input at 0) e q ∙ ap (laidOf (s .bus) (handAt s)) (sym did)
 
-    finished : s .head ≡ headerLength next
-    finished = omega (arith, r .complete, effect-devices device e)
+    done-one : Onward input before s from start after (betweenOf s (done + 1) put) (at + 1) (written + 2)
+    done-one o′ entry g =
+        subst (λ (x : Answered). Going o′ input entry after (betweenOf s (done + 1) (x .bus)) (at + 1) (written + 2)) answered
+        (stepped here (r .onward o′ entry g) inside e (small at) q (omega (arith, lent))
+        (laid ∙ ap (λ (x : Answered). take written answers ++ (x .first ∷ x .second ∷ drop 2 (drop written answers))) (sym answered)))
 
     same-room : length after ≡ length answers
     same-room =
         let w : length (take written answers) ≡ written = length-take-le written answers (omega (arith, lent)) in
         rw laid (simp (length-append, length-drop, w) (omega (arith, lent)))
 
-    run-stepped : Stepped s input before from start answers after next done at written left
-    run-stepped = record {
+    -- the next one's first three bytes
+    carried : 1 < left → Onward input before s from start after
+        (carryingOf s (done + 1) (busWith s (o .device)) (getD input (at + 1) 0) (getD input (at + 1 + 1) 0) (getD input (at + 1 + 2) 0))
+        (at + 1 + 3) (written + 2)
+    carried n o′ entry g =
+        next-three s (done + 1) (busWith s (o .device)) small (r .waits .held) (r .waits .head) (omega (arith, r .counted)) (omega (arith, r .whole))
+        (rw (no-restart n) at (done-one o′ entry g))
+
+    pub run-effect : Stepped s input before from start answers after (o .device) done at written left
+    run-effect = record {
       long = same-room;
-      leaves = record { onward = λ _. done-one; forward = λ _. omega (arith, r .forward); ends = λ n. absurd (n refl) };
-      again = λ n. record {
+      last = record { onward = λ _. done-one; forward = λ _. omega (arith, r .forward); ends = λ n. absurd (n refl) };
+      leaves = λ n. record { onward = λ _. carried n; forward = λ _. omega (arith, r .forward); ends = λ x. absurd (x refl) };
+      again = λ n stays. record {
         waits = r .waits;
-        complete = finished;
-        onward = λ o entry g.
-            next-three s (done + 1) next small (r .waits .held) finished (omega (arith, r .counted)) (omega (arith, r .whole)) (done-one o entry g);
+        onward = carried n;
+        own = λ c e q′.
+            hand-next (s .bus) (namedAt (s .bus) (getD (s .bytes) 0 0) (getD (s .bytes) 1 0)) (o .device) (no-restart n)
+            (second-of-two (s .bus) (getD (s .bytes) 0 0) (getD (s .bytes) 1 0))
+            (getD input (at + 1) 0) (getD input (at + 1 + 1) 0) (getD input (at + 1 + 2) 0) c e q′ stays;
+        once = λ t. absurd (omega (arith, n, r .once t));
         forward = omega (arith, r .forward);
         some = omega arith;
         counted = omega (arith, r .counted);
@@ -252,10 +308,3 @@ module _ {s : Reader} {input before : List ℕ} {from start : ℕ} {answers : Li
         count-fits = r .count-fits;
       };
     }
-
-  -- the same of the effect's outcome, under any name
-  pub run-effect : ((i : ℕ) → getD input i 0 < 256) → (e : Event) → decodeOf kind a b (getD input at 0) ≡ Valid e
-      → {o : Answered} → o ≡ sensorEffect device e
-      → {after : List ℕ} → after ≡ take written answers ++ (o .first ∷ o .second ∷ drop 2 (drop written answers))
-      → Stepped s input before from start answers after (o .sensor) done at written left
-  run-effect small e q f laid = rw f (run-stepped small e q (rw f at laid))

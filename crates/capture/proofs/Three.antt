@@ -6,8 +6,9 @@ use mathlib.Core.List.{List, [], _∷_}
 use mathlib.Core.Bool.{true}
 use native.Mathlib.Omega.{arith}
 use native.Mathlib.Nat.{sub-zero}
+use Rattle.pair.specs.declared.Bus.{Bus}
+use Rattle.pair.specs.Bus.{headerLength}
 use Rattle.capture.specs.declared.Reader.{Reader}
-use Rattle.capture.specs.Sensor.{Sensor, headerLength}
 use Rattle.capture.specs.Reader.{betweenOf, quietOf, carryOf, turnOf, feedOf, joinOf, rangesOf}
 use Rattle.capture.specs.Loops.{carryingOf}
 use Rattle.capture.proofs.Turns.{carried-turn}
@@ -15,9 +16,9 @@ use Rattle.capture.proofs.Outcomes.{join-join, feed-on}
 use Rattle.capture.proofs.InRange.{turn-ranges}
 
 -- between two records, one more counted
-module _ (s : Reader) (done : ℕ) (device : Sensor) (z : s .held ≡ 0) (h : s .head ≡ headerLength device) (d : done < s .count) (a b c : ℕ) where
+module _ (s : Reader) (done : ℕ) (bus : Bus) (z : s .held ≡ 0) (h : s .head ≡ headerLength bus) (d : done < s .count) (a b c : ℕ) where
   abbrev none : Reader
-  none = betweenOf s done device
+  none = betweenOf s done bus
 
   abbrev one : Reader
   one = carryOf none a
@@ -26,7 +27,7 @@ module _ (s : Reader) (done : ℕ) (device : Sensor) (z : s .held ≡ 0) (h : s 
   two = carryOf one b
 
   abbrev three : Reader
-  three = carryingOf s done device a b c
+  three = carryingOf s done bus a b c
 
   first : turnOf none a ≡ quietOf one
   first = carried-turn none a z h d (omega arith)

@@ -1,4 +1,3 @@
-pub mod Sensor
 pub mod Reader
 pub mod Loops
 pub mod Whole

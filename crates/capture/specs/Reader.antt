@@ -6,13 +6,17 @@ use mathlib.Core.List.{List, [], _∷_, _++_}
 use mathlib.Core.Bool.{Bool, true, false, cond, _&&_, _||_}
 use lib.ListN.{length, getD, set, drop}
 use lib.Dec.{ltb, leb, eqb}
+use Rattle.registers.specs.Page.{addressOf}
+use Rattle.device.specs.Bus.{poweredOf}
 use Rattle.device.specs.Ranges.{allTrue, variantOf}
 use Rattle.record.specs.declared.Record.{Record}
 use Rattle.record.specs.declared.Record.the-variants.{Valid, Refused}
 use Rattle.record.specs.Record.{decodeOf, codeOf}
+use Rattle.pair.specs.declared.Bus.{Bus}
+use Rattle.pair.specs.Bus.{zeroBus, placedOf, countedBus, firstAddress, Answered, answersOf, countPlace, headerLength}
+use Rattle.pair.specs.Ranges.{busRangesOf}
 use Rattle.capture.specs.declared.Reader.{Reader}
 use Rattle.capture.specs.declared.Fed.{Fed}
-use Rattle.capture.specs.Sensor.{Sensor, Answered, zeroSensor, countPlace, headerLength, sensorRanges, sensorPowered, sensorEffect}
 
 -- ---- the state
 
@@ -21,48 +25,48 @@ noBytes = 0 ∷ 0 ∷ 0 ∷ []
 
 -- a fresh state is all zeros
 abbrev pub freshOf : Reader
-freshOf = record { head = 0; count = 0; done = 0; carried = 0; bytes = noBytes; held = 0; device = zeroSensor }
+freshOf = record { head = 0; count = 0; done = 0; carried = 0; bytes = noBytes; held = 0; bus = zeroBus }
 
 -- ---- the same state with one thing changed
 
 -- so many header bytes taken
 abbrev pub withHead : Reader → ℕ → Reader
 withHead s head =
-    record { head = head; count = s .count; done = s .done; carried = s .carried; bytes = s .bytes; held = s .held; device = s .device }
+    record { head = head; count = s .count; done = s .done; carried = s .carried; bytes = s .bytes; held = s .held; bus = s .bus }
 
 -- this record count
 abbrev pub withCount : Reader → ℕ → Reader
 withCount s count =
-    record { head = s .head; count = count; done = s .done; carried = s .carried; bytes = s .bytes; held = s .held; device = s .device }
+    record { head = s .head; count = count; done = s .done; carried = s .carried; bytes = s .bytes; held = s .held; bus = s .bus }
 
 -- so many records done
 abbrev pub withDone : Reader → ℕ → Reader
 withDone s done =
-    record { head = s .head; count = s .count; done = done; carried = s .carried; bytes = s .bytes; held = s .held; device = s .device }
+    record { head = s .head; count = s .count; done = done; carried = s .carried; bytes = s .bytes; held = s .held; bus = s .bus }
 
 -- so many bytes of a record carried, and their three places
 abbrev pub withCarried : Reader → ℕ → List ℕ → Reader
 withCarried s carried bytes =
-    record { head = s .head; count = s .count; done = s .done; carried = carried; bytes = bytes; held = s .held; device = s .device }
+    record { head = s .head; count = s .count; done = s .done; carried = carried; bytes = bytes; held = s .held; bus = s .bus }
 
 -- holding a lasting code
 abbrev pub holdOf : Reader → ℕ → Reader
 holdOf s code =
-    record { head = s .head; count = s .count; done = s .done; carried = s .carried; bytes = s .bytes; held = code; device = s .device }
+    record { head = s .head; count = s .count; done = s .done; carried = s .carried; bytes = s .bytes; held = code; bus = s .bus }
 
--- this device
-abbrev pub withDevice : Reader → Sensor → Reader
-withDevice s sensor =
-    record { head = s .head; count = s .count; done = s .done; carried = s .carried; bytes = s .bytes; held = s .held; device = sensor }
+-- this bus
+abbrev pub withBus : Reader → Bus → Reader
+withBus s bus =
+    record { head = s .head; count = s .count; done = s .done; carried = s .carried; bytes = s .bytes; held = s .held; bus = bus }
 
--- so many records done with this device, and no byte carried
-abbrev pub betweenOf : Reader → ℕ → Sensor → Reader
-betweenOf s done sensor = withCarried (withDone (withDevice s sensor) done) 0 noBytes
+-- so many records done with this bus, and no byte carried
+abbrev pub betweenOf : Reader → ℕ → Bus → Reader
+betweenOf s done bus = withCarried (withDone (withBus s bus) done) 0 noBytes
 
 -- ---- the header
 
 abbrev pub headerLengthOf : Reader → ℕ
-headerLengthOf s = headerLength (s .device)
+headerLengthOf s = headerLength (s .bus)
 
 -- header bytes are still to come
 abbrev pub inHeader : Reader → Bool
@@ -74,7 +78,7 @@ headerDone s = eqb (s .head) (headerLengthOf s)
 
 -- bytes of the record count taken
 abbrev pub countTaken : Reader → ℕ
-countTaken s = s .head - countPlace (s .device)
+countTaken s = s .head - countPlace (s .bus)
 
 -- ---- its ranges
 
@@ -84,7 +88,7 @@ limitOf taken = 256 ^ min taken 4
 
 abbrev pub placeTests : Reader → List Bool
 placeTests s =
-    -- header bytes taken 0 to 6, the header's length
+    -- header bytes taken at most the header's length, 6 with one device and 7 with two (request c)
     leb (s .head) (headerLengthOf s) ∷
     -- record bytes carried 0 to 3, none before the header is complete or once all records are done
     leb (s .carried) 3 ∷
@@ -103,8 +107,12 @@ placeTests s =
 unfoldable pub placeOf : Reader → Bool
 placeOf s = allTrue (placeTests s)
 
+-- a held code of 0 to 5, or 9 (request c)
+abbrev pub heldTest : ℕ → Bool
+heldTest held = leb held 5 || eqb held 9
+
 unfoldable pub rangesOf : Reader → Bool
-rangesOf s = allTrue (placeOf s ∷ leb (s .held) 5 ∷ sensorRanges (s .head) (s .device) ∷ [])
+rangesOf s = allTrue (placeOf s ∷ heldTest (s .held) ∷ busRangesOf (s .head) (s .bus) ∷ [])
 
 -- ---- one byte
 
@@ -123,21 +131,35 @@ quietOf s = record { reader = s; pair = false; first = 0; second = 0 }
 abbrev pub headTakenOf : Reader → Reader
 headTakenOf s = withHead s (s .head + 1)
 
--- it is the device count; a variant; one byte of the record count, highest first
-abbrev pub openedOf : Reader → Reader
-openedOf s = headTakenOf s
+-- it is the device count
+abbrev pub openedOf : Reader → ℕ → Reader
+openedOf s devices = withBus (headTakenOf s) (countedBus (s .bus) devices)
 
+-- request c: the second device's variant is the third header byte
+abbrev pub secondVariant : Reader → Bool
+secondVariant s = ltb 1 (s .head)
+
+-- at its variant byte a device stands as after power-on
 abbrev pub variantTakenOf : Reader → ℕ → Reader
-variantTakenOf s variant = withDevice (headTakenOf s) (sensorPowered variant)
+variantTakenOf s variant = withBus (headTakenOf s) (placedOf (s .bus) (secondVariant s) (poweredOf variant))
 
+-- request c: both devices would have one address
+abbrev pub oneAddress : Reader → ℕ → Bool
+oneAddress s variant = secondVariant s && eqb (addressOf variant) (firstAddress (s .bus))
+
+-- one byte of the record count, highest first
 abbrev pub countedOf : Reader → ℕ → Reader
 countedOf s b = withCount (headTakenOf s) (s .count * 256 + b)
 
--- header bytes are judged as they come: 1 unless the device count is 1, 2 unless the variant is 1, 2 or 3
+-- a variant byte: 2 unless it is 1, 2 or 3, then 9 where both devices have one address
+abbrev pub variantByteOf : Reader → ℕ → Reader
+variantByteOf s b = cond (variantOf b) (cond (oneAddress s b) (holdOf s 9) (variantTakenOf s b)) (holdOf s 2)
+
+-- header bytes are judged as they come: 1 unless the device count is 1 or 2
 unfoldable pub headOf : Reader → ℕ → Reader
 headOf s b =
-    cond (eqb (s .head) 0) (cond (eqb b 1) (openedOf s) (holdOf s 1))
-    (cond (ltb (s .head) (countPlace (s .device))) (cond (variantOf b) (variantTakenOf s b) (holdOf s 2))
+    cond (eqb (s .head) 0) (cond (eqb b 1 || eqb b 2) (openedOf s b) (holdOf s 1))
+    (cond (ltb (s .head) (countPlace (s .bus))) (variantByteOf s b)
     (countedOf s b))
 
 abbrev pub carryOf : Reader → ℕ → Reader
@@ -145,15 +167,15 @@ carryOf s b = withCarried s (s .carried + 1) (set (s .bytes) (s .carried) b)
 
 -- a record done: its answer pair, nothing carried
 abbrev pub answeredOf : Reader → Answered → Turn
-answeredOf s a = record { reader = betweenOf s (s .done + 1) (a .sensor); pair = true; first = a .first; second = a .second }
+answeredOf s a = record { reader = betweenOf s (s .done + 1) (a .bus); pair = true; first = a .first; second = a .second }
 
 abbrev pub judgedOf : Reader → Record → Turn
-judgedOf s (Valid e) = answeredOf s (sensorEffect (s .device) e)
+judgedOf s (Valid e) = answeredOf s (answersOf (s .bus) e)
 judgedOf s (Refused why) = quietOf (holdOf s (codeOf (Refused why)))
 
--- a record is judged at its fourth byte
+-- a record is judged at its fourth byte, under the device count
 unfoldable pub recordOf : Reader → ℕ → Turn
-recordOf s c = judgedOf s (decodeOf (getD (s .bytes) 0 0) (getD (s .bytes) 1 0) (getD (s .bytes) 2 0) c)
+recordOf s c = judgedOf s (decodeOf (s .bus .devices) (getD (s .bytes) 0 0) (getD (s .bytes) 1 0) (getD (s .bytes) 2 0) c)
 
 -- a state that holds a lasting code stays; a byte that is refused leaves such a state; 5 past the last counted record
 unfoldable pub turnOf : Reader → ℕ → Turn

@@ -3,17 +3,20 @@
 -- Assumes nothing.
 use Prim.Native.Nat.{ℕ, _+_, _*_}
 use mathlib.Core.List.{List, [], _∷_, _++_}
-use mathlib.Core.Bool.{cond}
+use mathlib.Core.Bool.{cond, _||_}
 use lib.ListN.{length, take}
 use lib.Dec.{ltb, eqb}
+use Rattle.registers.specs.Page.{addressOf}
 use Rattle.device.specs.declared.Event.{Event}
+use Rattle.device.specs.Bus.{poweredOf, zeroDevice}
 use Rattle.device.specs.Ranges.{variantOf}
 use Rattle.record.specs.declared.Record.{Record}
 use Rattle.record.specs.declared.Record.the-variants.{Valid, Refused}
 use Rattle.record.specs.Record.{decodeOf, codeOf}
+use Rattle.pair.specs.declared.Bus.{Bus}
+use Rattle.pair.specs.Bus.{answersOf, countPlace, headerLength}
 use Rattle.capture.specs.declared.Reader.{Reader}
-use Rattle.capture.specs.Sensor.{Sensor, zeroSensor, countPlace, headerLength, sensorPowered, sensorEffect}
-use Rattle.capture.specs.Reader.{noBytes, freshOf, withHead, withCount, withDone, withCarried, holdOf, withDevice}
+use Rattle.capture.specs.Reader.{noBytes, freshOf, withHead, withCount, withDone, withCarried, holdOf, withBus}
 
 -- ---- a capture's result
 
@@ -40,12 +43,12 @@ thenOf n answers w = record { code = w .code; consumed = n + w .consumed; answer
 -- ---- states by section
 
 -- in the header, so many bytes of it taken
-abbrev pub heading : ℕ → ℕ → Sensor → Reader
-heading head count sensor = withHead (withCount (withDevice freshOf sensor) count) head
+abbrev pub heading : ℕ → ℕ → Bus → Reader
+heading head count bus = withHead (withCount (withBus freshOf bus) count) head
 
 -- in the records, k of n done, with some bytes of the next one
-abbrev pub recording : ℕ → ℕ → Sensor → List ℕ → Reader
-recording n k sensor l = withCarried (withDone (heading (headerLength sensor) n sensor) k) (length l) (take 3 (l ++ noBytes))
+abbrev pub recording : ℕ → ℕ → Bus → List ℕ → Reader
+recording n k bus l = withCarried (withDone (heading (headerLength bus) n bus) k) (length l) (take 3 (l ++ noBytes))
 
 -- ---- the records
 
@@ -71,8 +74,9 @@ over (k ∷ a ∷ []) = k ∷ a ∷ []
 over (k ∷ a ∷ b ∷ []) = k ∷ a ∷ b ∷ []
 over (k ∷ a ∷ b ∷ c ∷ xs) = over xs
 
-abbrev pub quadOf : Quad → Record
-quadOf q = decodeOf (q .kind) (q .a) (q .b) (q .c)
+-- read under a device count
+abbrev pub quadOf : ℕ → Quad → Record
+quadOf devices q = decodeOf devices (q .kind) (q .a) (q .b) (q .c)
 
 -- an event is stepped; a refused record is told by its code
 abbrev pub onRecord : Record → (Event → Whole) → (ℕ → Whole) → Whole
@@ -80,18 +84,17 @@ onRecord (Valid e) step refuse = step e
 onRecord (Refused why) step refuse = refuse (codeOf (Refused why))
 
 -- the records in order, then the bytes over, k of n done; a refused record leaves its first three bytes consumed and carried; 5 for a
--- byte past the last counted record; the finishing code is 0 at the
--- counted end exactly
-unfoldable pub recordsOf : ℕ → ℕ → Sensor → List Quad → List ℕ → Whole
-recordsOf n k sensor [] [] = endsOf (recording n k sensor []) (cond (eqb k n) 0 6)
-recordsOf n k sensor [] (x ∷ l) =
-    cond (ltb k n) (thenOf (length (x ∷ l)) [] (endsOf (recording n k sensor (x ∷ l)) 6)) (refusesOf (recording n k sensor []) 5)
-recordsOf n k sensor (q ∷ qs) l =
+-- byte past the last counted record; the finishing code is 0 at the counted end exactly
+unfoldable pub recordsOf : ℕ → ℕ → Bus → List Quad → List ℕ → Whole
+recordsOf n k bus [] [] = endsOf (recording n k bus []) (cond (eqb k n) 0 6)
+recordsOf n k bus [] (x ∷ l) =
+    cond (ltb k n) (thenOf (length (x ∷ l)) [] (endsOf (recording n k bus (x ∷ l)) 6)) (refusesOf (recording n k bus []) 5)
+recordsOf n k bus (q ∷ qs) l =
     cond (ltb k n)
-    (onRecord (quadOf q)
-    (λ e. thenOf 4 (sensorEffect sensor e .first ∷ sensorEffect sensor e .second ∷ []) (recordsOf n (k + 1) (sensorEffect sensor e .sensor) qs l))
-    (λ code. thenOf 3 [] (refusesOf (recording n k sensor (q .kind ∷ q .a ∷ q .b ∷ [])) code)))
-    (refusesOf (recording n k sensor []) 5)
+    (onRecord (quadOf (bus .devices) q)
+    (λ e. thenOf 4 (answersOf bus e .first ∷ answersOf bus e .second ∷ []) (recordsOf n (k + 1) (answersOf bus e .bus) qs l))
+    (λ code. thenOf 3 [] (refusesOf (recording n k bus (q .kind ∷ q .a ∷ q .b ∷ [])) code)))
+    (refusesOf (recording n k bus []) 5)
 
 -- ---- the header
 
@@ -101,19 +104,41 @@ number n [] = n
 number n (b ∷ bs) = number (n * 256 + b) bs
 
 -- the record count, four bytes, and the records
-unfoldable pub recordCountOf : Sensor → List ℕ → Whole
-recordCountOf sensor [] = endsOf (heading (countPlace sensor) 0 sensor) 6
-recordCountOf sensor (a ∷ []) = thenOf 1 [] (endsOf (heading (countPlace sensor + 1) (number 0 (a ∷ [])) sensor) 6)
-recordCountOf sensor (a ∷ b ∷ []) = thenOf 2 [] (endsOf (heading (countPlace sensor + 2) (number 0 (a ∷ b ∷ [])) sensor) 6)
-recordCountOf sensor (a ∷ b ∷ c ∷ []) = thenOf 3 [] (endsOf (heading (countPlace sensor + 3) (number 0 (a ∷ b ∷ c ∷ [])) sensor) 6)
-recordCountOf sensor (a ∷ b ∷ c ∷ d ∷ xs) = thenOf 4 [] (recordsOf (number 0 (a ∷ b ∷ c ∷ d ∷ [])) 0 sensor (quads xs) (over xs))
+unfoldable pub recordCountOf : Bus → List ℕ → Whole
+recordCountOf bus [] = endsOf (heading (countPlace bus) 0 bus) 6
+recordCountOf bus (a ∷ []) = thenOf 1 [] (endsOf (heading (countPlace bus + 1) (number 0 (a ∷ [])) bus) 6)
+recordCountOf bus (a ∷ b ∷ []) = thenOf 2 [] (endsOf (heading (countPlace bus + 2) (number 0 (a ∷ b ∷ [])) bus) 6)
+recordCountOf bus (a ∷ b ∷ c ∷ []) = thenOf 3 [] (endsOf (heading (countPlace bus + 3) (number 0 (a ∷ b ∷ c ∷ [])) bus) 6)
+recordCountOf bus (a ∷ b ∷ c ∷ d ∷ xs) = thenOf 4 [] (recordsOf (number 0 (a ∷ b ∷ c ∷ d ∷ [])) 0 bus (quads xs) (over xs))
 
--- the variant byte
-unfoldable pub variantsOf : List ℕ → Whole
-variantsOf [] = endsOf (heading 1 0 zeroSensor) 6
-variantsOf (v ∷ xs) = cond (variantOf v) (thenOf 1 [] (recordCountOf (sensorPowered v) xs)) (refusesOf (heading 1 0 zeroSensor) 2)
+-- the first variant taken, of one device or of two, and both: each device stands as after power-on at its variant byte
+abbrev pub firstTaken : ℕ → ℕ → Bus
+firstTaken devices v = record { devices = devices; first = poweredOf v; second = zeroDevice }
+
+abbrev pub bothOf : ℕ → ℕ → Bus
+bothOf v w = record { devices = 2; first = poweredOf v; second = poweredOf w }
+
+-- request c: the second variant byte, 2 before 9
+unfoldable pub secondVariantOf : ℕ → List ℕ → Whole
+secondVariantOf v [] = endsOf (heading 2 0 (firstTaken 2 v)) 6
+secondVariantOf v (w ∷ xs) =
+    cond (variantOf w)
+    (cond (eqb (addressOf w) (addressOf v)) (refusesOf (heading 2 0 (firstTaken 2 v)) 9) (thenOf 1 [] (recordCountOf (bothOf v w) xs)))
+    (refusesOf (heading 2 0 (firstTaken 2 v)) 2)
+
+-- the device count taken, no variant yet
+abbrev pub noneOf : ℕ → Bus
+noneOf devices = record { devices = devices; first = zeroDevice; second = zeroDevice }
+
+-- the first variant byte
+unfoldable pub variantsOf : ℕ → List ℕ → Whole
+variantsOf devices [] = endsOf (heading 1 0 (noneOf devices)) 6
+variantsOf devices (v ∷ xs) =
+    cond (variantOf v)
+    (thenOf 1 [] (cond (eqb devices 2) (secondVariantOf v xs) (recordCountOf (firstTaken devices v) xs)))
+    (refusesOf (heading 1 0 (noneOf devices)) 2)
 
 -- the device count
 unfoldable pub wholeOf : List ℕ → Whole
 wholeOf [] = endsOf freshOf 6
-wholeOf (n ∷ xs) = cond (eqb n 1) (thenOf 1 [] (variantsOf xs)) (refusesOf freshOf 1)
+wholeOf (n ∷ xs) = cond (eqb n 1 || eqb n 2) (thenOf 1 [] (variantsOf n xs)) (refusesOf freshOf 1)

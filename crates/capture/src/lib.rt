@@ -1,15 +1,14 @@
 // The capture's reader: fed in parts of any size, with any room for answers.
 ghost use mathlib.Core.Path.{_≡_};
 ghost use Rattle.capture.specs.Reader.{freshOf, endOf, finishOf, reportOf, FedWith};
-use device::Device;
+use pair::Bus;
 
 mod header;
 pub mod ranges;
 mod running;
-mod sensor;
 mod taking;
 
-// Header bytes taken, record count so far, records done, record bytes carried, a lasting code or 0, and the device.
+// Header bytes taken, record count so far, records done, record bytes carried, a lasting code or 0, and the bus.
 #[repr(C)]
 pub struct Reader {
     pub head: u8,
@@ -18,7 +17,7 @@ pub struct Reader {
     pub carried: u8,
     pub bytes: [u8; 3],
     pub held: u8,
-    pub device: Device,
+    pub bus: Bus,
 }
 
 // The state before a byte of the input.
@@ -40,7 +39,7 @@ pub struct Fed {
 pub fn fresh() -> Reader
     ensures { λ r. ⌜ r ≡ freshOf ⌝ }
 {
-    let device = sensor::powered(0);
+    let absent = device::bus::powered(0);
     Reader {
         head: 0,
         count: 0,
@@ -48,7 +47,11 @@ pub fn fresh() -> Reader
         carried: 0,
         bytes: [0; 3],
         held: 0,
-        device,
+        bus: Bus {
+            devices: 0,
+            first: absent,
+            second: absent,
+        },
     }
 }
 

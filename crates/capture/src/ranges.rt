@@ -4,10 +4,9 @@ ghost use Prim.Native.Nat.{_-_};
 ghost use Rattle.capture.specs.Reader.{limitOf, placeOf, rangesOf};
 use super::Reader;
 use super::header;
-use super::sensor;
 
 // 256 to the power of the count bytes taken: the header's bytes less those before the count.
-fn limit(head: u8, before: u8) -> u64
+fn limit(head: u16, before: u16) -> u64
     ensures { λ r. ⌜ r ≡ limitOf (head - before) ⌝ }
 {
     if head <= before {
@@ -32,13 +31,13 @@ fn place(s: Reader) -> bool
     let complete = header::complete(s);
     device::ranges::all(
         &[
-            s.head <= sensor::header_length(s.device),
+            header::within(s),
             s.carried <= 3,
             (s.carried == 0) | (complete & (s.done < s.count)),
             (0 < s.carried) | (first == 0),
             (1 < s.carried) | (second == 0),
             (2 < s.carried) | (third == 0),
-            count < limit(s.head, sensor::count_place(s.device)),
+            count < limit(header::taken(s), header::count_place(s.bus)),
             s.done <= s.count,
             complete | (s.done == 0),
         ],
@@ -49,5 +48,11 @@ fn place(s: Reader) -> bool
 pub fn in_range(s: Reader) -> bool
     ensures { λ r. ⌜ r ≡ rangesOf s ⌝ }
 {
-    device::ranges::all(&[place(s), s.held <= 5, sensor::ranges(s.head, s.device)])
+    device::ranges::all(
+        &[
+            place(s),
+            (s.held <= 5) | (s.held == 9),
+            pair::ranges::ranges(s.head, s.bus),
+        ],
+    )
 }

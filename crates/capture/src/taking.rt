@@ -3,12 +3,11 @@ ghost use mathlib.Core.Path.{_≡_};
 ghost use mathlib.Core.Bool.{true, false};
 ghost use Prim.Native.Nat.{_<_, _≤_};
 ghost use lib.ListN.{length, set};
-ghost use Rattle.capture.specs.Reader.{headerLengthOf, holdOf, quietOf, headOf, carryOf, turnOf, rangesOf};
+ghost use Rattle.capture.specs.Reader.{holdOf, quietOf, openedOf, variantTakenOf, oneAddress, variantByteOf, headOf, carryOf, turnOf, rangesOf};
 ghost use Rattle.capture.specs.Loops.{waitsOf, Led};
 use super::Ahead;
 use super::Reader;
 use super::header;
-use super::sensor;
 
 pub(crate) fn hold(s: Reader, code: u8) -> Reader
     ensures { λ r. ⌜ r ≡ holdOf s code ⌝ }
@@ -24,27 +23,72 @@ fn wide(b: u8) -> u32
     b as u32
 }
 
+// The device count is taken.
+fn opened(s: Reader, devices: u8) -> Reader
+    requires { ⌜ s .head < 255 ⌝ }
+    ensures { λ r. ⌜ r ≡ openedOf s devices ⌝ }
+{
+    let mut bus = s.bus;
+    bus.devices = devices;
+    let mut next = s;
+    next.head = s.head + 1;
+    next.bus = bus;
+    next
+}
+
+// A variant is taken: its device stands as after power-on.
+fn variant_taken(s: Reader, variant: u8) -> Reader
+    requires { ⌜ s .head < 255 ⌝ }
+    ensures { λ r. ⌜ r ≡ variantTakenOf s variant ⌝ }
+{
+    let bus = pair::placed(s.bus, 1 < s.head, device::bus::powered(variant));
+    let mut next = s;
+    next.head = s.head + 1;
+    next.bus = bus;
+    next
+}
+
+// Both devices would have one address.
+fn one_address(s: Reader, variant: u8) -> bool
+    ensures { λ r. ⌜ r ≡ oneAddress s variant ⌝ }
+{
+    let bus = s.bus;
+    let first = bus.first;
+    let taken = first.variant;
+    (1 < s.head) & (registers::address(variant) == registers::address(taken))
+}
+
+// A variant byte: 2, then 9.
+fn variant(s: Reader, b: u8) -> Reader
+    requires { ⌜ s .head < 255 ⌝ }
+    ensures { λ r. ⌜ r ≡ variantByteOf s b ⌝ }
+{
+    if !device::ranges::variant(b) {
+        return hold(s, 2);
+    }
+    if one_address(s, b) {
+        return hold(s, 9);
+    }
+    variant_taken(s, b)
+}
+
 // A header byte: the device count, a variant, or one of the record count's four.
 fn head_byte(s: Reader, b: u8) -> Reader
-    requires { ⌜ s .head < headerLengthOf s ⌝ }
+    requires { ⌜ s .head < 255 ⌝ }
     requires { ⌜ s .count < 0x1000000 ⌝ }
     ensures { λ r. ⌜ r ≡ headOf s b ⌝ }
 {
-    let mut next = s;
-    next.head = s.head + 1;
     if s.head == 0 {
-        if b == 1 {
-            return next;
+        if (b == 1) | (b == 2) {
+            return opened(s, b);
         }
         return hold(s, 1);
     }
-    if s.head < sensor::count_place(s.device) {
-        if device::ranges::variant(b) {
-            next.device = sensor::powered(b);
-            return next;
-        }
-        return hold(s, 2);
+    if header::taken(s) < header::count_place(s.bus) {
+        return variant(s, b);
     }
+    let mut next = s;
+    next.head = s.head + 1;
     next.count = s.count * 0x100 + wide(b);
     next
 }

@@ -2,24 +2,24 @@
 -- places for carried bytes, as every `Reader` has), the bytes and the room. `finish-exactly`: the same of asking to finish. `call-code` and
 -- `finish-code`: whatever the state, the bytes and the room, the code is one of the table's.
 -- Assumes nothing.
-use Prim.Native.Nat.{ℕ, zero, suc, _-_, _≤_}
+use Prim.Native.Nat.{ℕ, _-_}
 use mathlib.Core.Path.{_≡_, refl, _∙_}
 use mathlib.Core.Logic.{_↔_}
 use mathlib.Core.List.{List, [], _∷_, _++_}
 use mathlib.Core.Bool.{true, _&&_}
-use native.Mathlib.Omega.{arith}
 use lib.Dec.{eqb}
 use lib.ListN.{length}
-use borrow.Author.Tests.{leb-true, eqb-true, eqb-false, eq-eqb, ne-eqb}
+use borrow.Author.Tests.{eqb-true, eqb-false, eq-eqb, ne-eqb}
 use Rattle.laws.proofs.Choices.{cond-ind, by-test, and-left, and-right}
 use Rattle.laws.proofs.Exactly.{by-lines}
 use Rattle.registers.specs.Page.{among}
 use Rattle.capture.specs.declared.Reader.{Reader}
-use Rattle.capture.specs.Reader.{Out, headerDone, rangesOf, turnOf, pairOf, feedOf, callOf, finishOf}
+use Rattle.capture.specs.Reader.{Out, heldTest, headerDone, rangesOf, turnOf, pairOf, feedOf, callOf, finishOf}
 use Rattle.capture_laws.specs.Codes.{Header, headerAhead, carriedOf, Free, Gives, Finishes, callCodes, finishCodes}
-use Rattle.capture_laws.specs.Codes.Header.{badCount, badVariant, unfinished, complete}
+use Rattle.capture_laws.specs.Codes.Header.{badCount, badVariant, badAddress, unfinished, complete}
 use Rattle.capture.proofs.InRange.{ranges}
-use Rattle.capture_laws.proofs.Ways.{way, held-most}
+use Rattle.capture_laws.proofs.Ways.{way, held-kept}
+use Rattle.capture_laws.proofs.Held.{by-code}
 use Rattle.capture.proofs.Outcomes.{feed-stop, feed-full, feed-on}
 use Rattle.capture_laws.proofs.Run.{cases}
 use Rattle.capture_laws.proofs.Judging.{Lines, refused, ended, by-line, has-line}
@@ -38,13 +38,15 @@ module _ (s : Reader) (xs : List ℕ) (room : ℕ) (three : length (s .bytes) �
   leads-to f e = rw (f .ranges) (rw e at (leads s three f xs room))
 
   -- a line of the records gives its code, and is a line of the table
-  in-lines : {n code : ℕ} {l : List ℕ} → Free s → headerAhead s xs ≡ complete n l → Lines n (s .done) (carriedOf s ++ l) room code
-      → callOf s xs room .code ≡ code
+  in-lines : {devices n code : ℕ} {l : List ℕ} → Free s → headerAhead s xs ≡ complete devices n l
+      → Lines devices n (s .done) (carriedOf s ++ l) room code → callOf s xs room .code ≡ code
   unfolding Leads
-  in-lines {n} {code} {l} f e m = let t = leads-to f e in t .1 ∙ by-line n (s .done) (t .0) (carriedOf s ++ l) room code m
+  in-lines {devices} {n} {code} {l} f e m =
+      let t = leads-to f e in
+      t .2 ∙ by-line n (s .done) (t .0) (carriedOf s ++ l) room code (rw (t .1) m)
 
-  of-line : {n code : ℕ} {l : List ℕ} → Free s → headerAhead s xs ≡ complete n l → Lines n (s .done) (carriedOf s ++ l) room code
-      → Gives s xs room code
+  of-line : {devices n code : ℕ} {l : List ℕ} → Free s → headerAhead s xs ≡ complete devices n l
+      → Lines devices n (s .done) (carriedOf s ++ l) room code → Gives s xs room code
   of-line f e (Lines.kind m u) = Gives.kind f e m u
   of-line f e (Lines.operand m r) = Gives.operand f e m r
   of-line f e (Lines.past-end p) = Gives.past-end f e p
@@ -58,6 +60,7 @@ module _ (s : Reader) (xs : List ℕ) (room : ℕ) (three : length (s .bytes) �
   gives _ (Gives.held h n) = simp h (held-stays s xs room n)
   gives _ (Gives.device-count f e) = leads-to f e
   gives _ (Gives.variant f e) = leads-to f e
+  gives _ (Gives.address f e) = leads-to f e
   gives _ (Gives.kind f e m u) = in-lines f e (Lines.kind m u)
   gives _ (Gives.operand f e m r) = in-lines f e (Lines.operand m r)
   gives _ (Gives.past-end f e p) = in-lines f e (Lines.past-end p)
@@ -70,10 +73,14 @@ module _ (s : Reader) (xs : List ℕ) (room : ℕ) (three : length (s .bytes) �
   told {code} g = rw (gives code g) g
 
   by-ahead : Free s → (a : Header) → headerAhead s xs ≡ a → Gives s xs room (callOf s xs room .code)
+  unfolding Leads
   by-ahead f badCount e = told (Gives.device-count f e)
   by-ahead f badVariant e = told (Gives.variant f e)
+  by-ahead f badAddress e = told (Gives.address f e)
   by-ahead f unfinished e = told (Gives.in-header f e)
-  by-ahead f (complete n l) e = told (of-line f e (has-line n (s .done) (s .device) (carriedOf s ++ l) room))
+  by-ahead f (complete devices n l) e =
+      let t = leads-to f e in
+      told (of-line f e (rw (t .1) at (has-line n (s .done) (t .0) (carriedOf s ++ l) room)))
 
   pub given : Gives s xs room (callOf s xs room .code)
   given =
@@ -124,36 +131,30 @@ module _ (s : Reader) where
 
 -- ---- no other codes
 
-up-to-five : (code : ℕ) (more : List ℕ) → code ≤ 5 → among code (0 ∷ 1 ∷ 2 ∷ 3 ∷ 4 ∷ 5 ∷ more) ≡ true
-up-to-five zero more h = refl
-up-to-five (suc zero) more h = refl
-up-to-five (suc (suc zero)) more h = refl
-up-to-five (suc (suc (suc zero))) more h = refl
-up-to-five (suc (suc (suc (suc zero)))) more h = refl
-up-to-five (suc (suc (suc (suc (suc zero))))) more h = refl
-up-to-five (suc (suc (suc (suc (suc (suc n)))))) more h = absurd (omega arith)
+call-listed : (code : ℕ) → heldTest code ≡ true → among code callCodes ≡ true
+call-listed = by-code (λ (code : ℕ). among code callCodes ≡ true) refl refl refl refl refl refl refl
 
-held-code : (s : Reader) → rangesOf s ≡ true → s .held ≤ 5
-held-code s h = leb-true (s .held) 5 (ranges s h .held)
+finish-listed : (code : ℕ) → heldTest code ≡ true → among code finishCodes ≡ true
+finish-listed = by-code (λ (code : ℕ). among code finishCodes ≡ true) refl refl refl refl refl refl refl
 
-feed-code : (s : Reader) (xs : List ℕ) (room : ℕ) → s .held ≤ 5 → among (feedOf s xs room .code) callCodes ≡ true
+feed-code : (s : Reader) (xs : List ℕ) (room : ℕ) → heldTest (s .held) ≡ true → among (feedOf s xs room .code) callCodes ≡ true
 unfolding feedOf
-feed-code s [] room h = up-to-five (s .held) (7 ∷ 8 ∷ []) h
+feed-code s [] room h = call-listed (s .held) h
 feed-code s (b ∷ xs) room h =
     let t = turnOf s b in
-    let most = held-most (way s b) h in
+    let can = held-kept (way s b) h in
     cases _ s b room
-    (λ n. rw (feed-stop s b xs room n) (up-to-five (t .reader .held) (7 ∷ 8 ∷ []) most))
-    (λ z l. rw (feed-on s b xs room z l) (feed-code (t .reader) xs (room - length (pairOf t)) most))
+    (λ n. rw (feed-stop s b xs room n) (call-listed (t .reader .held) can))
+    (λ z l. rw (feed-on s b xs room z l) (feed-code (t .reader) xs (room - length (pairOf t)) can))
     (λ z l. rw (feed-full s b xs room z l) refl)
 
 pub call-code : (s : Reader) (xs : List ℕ) (room : ℕ) → among (callOf s xs room .code) callCodes ≡ true
 call-code s xs room =
-    cond-ind (λ (o : Out). among (o .code) callCodes ≡ true) (rangesOf s) (λ h. feed-code s xs room (held-code s h)) (λ _. refl)
+    cond-ind (λ (o : Out). among (o .code) callCodes ≡ true) (rangesOf s) (λ h. feed-code s xs room (ranges s h .held)) (λ _. refl)
 
 listed : {s : Reader} {code : ℕ} → Finishes s code → among code finishCodes ≡ true
 listed (Finishes.out-of-ranges o) = refl
-listed {s} (Finishes.held h n) = up-to-five (s .held) (6 ∷ 8 ∷ []) (held-code s h)
+listed {s} (Finishes.held h n) = finish-listed (s .held) (ranges s h .held)
 listed (Finishes.before-end f n) = refl
 listed (Finishes.at-end f h d) = refl
 

@@ -11,18 +11,17 @@ use lib.Dec.{ltb, eqb}
 use lib.ListN.{length, getD}
 use borrow.Author.Tests.{leb-true, ltb-true, ltb-false, eqb-true, eqb-false}
 use Rattle.laws.proofs.Choices.{clash, cond-ind, by-test}
-use Rattle.device.specs.Ranges.{variantOf}
 use Rattle.record.specs.declared.Record.{Record}
 use Rattle.record.specs.declared.Record.the-variants.{Valid, Refused}
 use Rattle.record.specs.declared.Refusal.the-variants.{Kind, Operand}
 use Rattle.record.specs.Record.{decodeOf, codeOf}
 use Rattle.capture.specs.declared.Reader.{Reader}
-use Rattle.capture.specs.Sensor.{countPlace}
-use Rattle.capture.specs.Reader.{Turn, freshOf, headerLengthOf, headerDone, inHeader, headOf, judgedOf, recordOf, turnOf, rangesOf}
+use Rattle.capture.specs.Reader.{Turn, freshOf, headerLengthOf, headerDone, inHeader, holdOf, headOf, judgedOf, recordOf, turnOf, rangesOf}
 use Rattle.capture.specs.Whole.{Whole, wholeOf}
 use Rattle.capture_laws.specs.Codes.{lastingOf}
 use Rattle.capture_laws.specs.Places.{Refuses, consumedOf}
-use Rattle.capture.proofs.InRange.{ranges, count-fits}
+use Rattle.capture.proofs.Turns.{head-ind}
+use Rattle.capture.proofs.InRange.{ranges, short-header, count-fits}
 use Rattle.capture_laws.proofs.Run.{runOf, run-nil, run-on, run-stop}
 use Rattle.capture_laws.proofs.Sections.{outcome, whole-run, whole-finishing}
 use Rattle.capture_laws.proofs.Cuts.{whole-call}
@@ -50,13 +49,10 @@ module _ (s : Reader) (b : ℕ) (few : s .carried ≤ 3) where
 
   module _ (none : s .held ≡ 0) where
     head-counted : Counted s (headOf s b)
-    unfolding headOf
     head-counted =
-        cond-ind (Counted s) (eqb (s .head) 0)
-        (λ _. cond-ind (Counted s) (eqb b 1) (λ _. more none (omega arith) few) (λ _. same (λ z. omega arith) (omega arith) few))
-        (λ _. cond-ind (Counted s) (ltb (s .head) (countPlace (s .device)))
-        (λ _. cond-ind (Counted s) (variantOf b) (λ _. more none (omega arith) few) (λ _. same (λ z. omega arith) (omega arith) few))
-        (λ _. more none (omega arith) few))
+        let stopped : (code : ℕ) → (code ≡ 0 → ⊥) → Counted s (holdOf s code) = λ code n. same n (omega arith) few in
+        head-ind s b (Counted s) (more none (omega arith) few) (stopped 1 (λ z. omega arith)) (more none (omega arith) few)
+        (stopped 9 (λ z. omega arith)) (stopped 2 (λ z. omega arith)) (more none (omega arith) few)
 
     judged-counted : 3 ≤ s .carried → (d : Record) → CountedBy (judgedOf s d)
     unfolding codeOf
@@ -73,7 +69,7 @@ module _ (s : Reader) (b : ℕ) (few : s .carried ≤ 3) where
       (λ _. cond-ind CountedBy (ltb (s .done) (s .count))
       (λ _. cond-ind CountedBy (ltb (s .carried) 3)
       (λ e. let k = ltb-true (s .carried) 3 e in more none (omega arith) (omega arith))
-      (λ e. judged-counted none (ltb-false (s .carried) 3 e) (decodeOf (getD (s .bytes) 0 0) (getD (s .bytes) 1 0) (getD (s .bytes) 2 0) b)))
+      (λ e. judged-counted none (ltb-false (s .carried) 3 e) (decodeOf (s .bus .devices) (getD (s .bytes) 0 0) (getD (s .bytes) 1 0) (getD (s .bytes) 2 0) b)))
       (λ _. same (λ z. omega arith) (omega arith) few)))
       (λ n. same (eqb-false (s .held) 0 n) (omega arith) few)
 
@@ -106,7 +102,7 @@ consumed-most s h =
     let header = leb-true (s .head) (headerLengthOf s) (place .head) in
     let few = leb-true (s .carried) 3 (place .few) in
     let done = leb-true (s .done) (s .count) (place .done) in
-    omega (arith, count-fits s h)
+    omega (arith, count-fits s h, short-header s h)
 
 -- ---- the byte behind them
 

@@ -9,15 +9,14 @@ use lib.Dec.{ltb, eqb}
 use Rattle.record.specs.declared.Record.{Record}
 use Rattle.record.specs.declared.Record.the-variants.{Valid, Refused}
 use Rattle.record.specs.Record.{decodeOf}
-use Rattle.device.specs.Ranges.{variantOf}
 use Rattle.capture.specs.declared.Reader.{Reader}
-use Rattle.capture.specs.Sensor.{countPlace}
 use Rattle.capture.specs.Reader.{inHeader, Turn, headOf, judgedOf, recordOf, turnOf, pairOf, feedOf, callOf, freshOf}
 use Rattle.capture_laws.specs.Schedule.{Bytes}
 use borrow.Author.Tests.{leb-true, eqb-true}
 use Rattle.capture.proofs.InRange.{ranges, count-fits}
 use Rattle.capture_laws.proofs.Cuts.{fresh-ranges}
 use Rattle.laws.proofs.Choices.{cond-ind}
+use Rattle.capture.proofs.Turns.{head-ind}
 use Rattle.capture.proofs.Outcomes.{feed-stop, feed-full, feed-on}
 use Rattle.capture_laws.proofs.Run.{cases, feed-ranges}
 
@@ -30,13 +29,7 @@ judged-even s (Valid e) = omega arith
 judged-even s (Refused why) = omega arith
 
 head-same : (s : Reader) (b : ℕ) → headOf s b .done ≡ s .done
-unfolding headOf
-head-same s b =
-    cond-ind Same (eqb (s .head) 0) (λ _. cond-ind Same (eqb b 1) (λ _. refl) (λ _. refl))
-    (λ _. cond-ind Same (ltb (s .head) (countPlace (s .device))) (λ _. cond-ind Same (variantOf b) (λ _. refl) (λ _. refl)) (λ _. refl))
-  where
-    Same : Reader → Type 0
-    Same t = t .done ≡ s .done
+head-same s b = head-ind s b (λ (t : Reader). t .done ≡ s .done) refl refl refl refl refl refl
 
 turn-even : (s : Reader) (b : ℕ) → Even s (turnOf s b)
 unfolding turnOf recordOf
@@ -44,7 +37,7 @@ turn-even s b =
     cond-ind (Even s) (eqb (s .held) 0)
     (λ _. cond-ind (Even s) (inHeader s) (λ _. omega (arith, head-same s b))
     (λ _. cond-ind (Even s) (ltb (s .done) (s .count))
-    (λ _. cond-ind (Even s) (ltb (s .carried) 3) (λ _. omega arith) (λ _. judged-even s (decodeOf _ _ _ b)))
+    (λ _. cond-ind (Even s) (ltb (s .carried) 3) (λ _. omega arith) (λ _. judged-even s (decodeOf _ _ _ _ b)))
     (λ _. omega arith)))
     (λ _. omega arith)
 
@@ -55,7 +48,7 @@ refused-quiet s b =
     cond-ind Quiet (eqb (s .held) 0)
     (λ z. cond-ind Quiet (inHeader s) (λ _ _. refl)
     (λ _. cond-ind Quiet (ltb (s .done) (s .count))
-    (λ _. cond-ind Quiet (ltb (s .carried) 3) (λ _ _. refl) (λ _. judged-quiet (eqb-true _ _ z) (decodeOf _ _ _ b)))
+    (λ _. cond-ind Quiet (ltb (s .carried) 3) (λ _ _. refl) (λ _. judged-quiet (eqb-true _ _ z) (decodeOf _ _ _ _ b)))
     (λ _ _. refl)))
     (λ _ _. refl)
   where

@@ -18,7 +18,7 @@ use Rattle.capture_laws.specs.Schedule.Parts.{one, more}
 use Rattle.capture_laws.proofs.Run.{runOf, run-append, run-ranges, feed-run, feed-resume, feed-ranges}
 use Rattle.capture_laws.proofs.Rooms.{feed-fits}
 use Rattle.capture_laws.proofs.Sections.{outcome, whole-run, whole-finishing}
-use Rattle.capture.proofs.Sensors.{zero-ranges}
+use Rattle.pair.proofs.Heading.{zero-ranges}
 
 -- what is seen of a call is its outcome
 pub seen-is : (o : Out) {r : Fed} {entry exit : List ℕ} → Meets o r entry exit → seen r exit ≡ o

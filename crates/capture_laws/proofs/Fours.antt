@@ -9,15 +9,15 @@ use lib.Dec.{ltb, eqb}
 use lib.ListN.{length, getD, length-append}
 use borrow.Author.Tests.{leb-true, ltb-false, eqb-true, eqb-false}
 use Rattle.laws.proofs.Choices.{cond-ind, by-test}
-use Rattle.device.specs.Ranges.{variantOf}
 use Rattle.record.specs.declared.Record.{Record}
 use Rattle.record.specs.declared.Record.the-variants.{Valid, Refused}
 use Rattle.record.specs.Record.{decodeOf}
 use Rattle.capture.specs.declared.Reader.{Reader}
-use Rattle.capture.specs.Sensor.{countPlace}
 use Rattle.capture.specs.Reader.{Turn, inHeader, headOf, judgedOf, recordOf, turnOf, pairOf, rangesOf}
 use Rattle.capture_laws.specs.Schedule.{Bytes}
+use Rattle.capture.proofs.Turns.{head-ind}
 use Rattle.capture.proofs.InRange.{ranges, count-fits}
+use Rattle.capture_laws.proofs.Held.{not-seven}
 use Rattle.capture_laws.proofs.Rooms.{feed-fits}
 use Rattle.capture_laws.proofs.Counts.{feed-even}
 use Rattle.capture_laws.proofs.Run.{runOf, run-nil, run-on, run-stop, run-ranges}
@@ -33,13 +33,7 @@ judged-four s (Valid e) h = omega arith
 judged-four s (Refused why) h = omega arith
 
 head-same : (s : Reader) (b : ℕ) → headOf s b .carried ≡ s .carried
-unfolding headOf
-head-same s b =
-    cond-ind Same (eqb (s .head) 0) (λ _. cond-ind Same (eqb b 1) (λ _. refl) (λ _. refl))
-    (λ _. cond-ind Same (ltb (s .head) (countPlace (s .device))) (λ _. cond-ind Same (variantOf b) (λ _. refl) (λ _. refl)) (λ _. refl))
-  where
-    Same : Reader → Type 0
-    Same t = t .carried ≡ s .carried
+head-same s b = head-ind s b (λ (t : Reader). t .carried ≡ s .carried) refl refl refl refl refl refl
 
 turn-four : (s : Reader) (b : ℕ) → Four s (turnOf s b)
 unfolding turnOf recordOf
@@ -48,7 +42,7 @@ turn-four s b =
     (λ _. cond-ind (Four s) (inHeader s) (λ _. omega (arith, head-same s b))
     (λ _. cond-ind (Four s) (ltb (s .done) (s .count))
     (λ _. cond-ind (Four s) (ltb (s .carried) 3) (λ _. omega arith)
-    (λ e. judged-four s (decodeOf (getD (s .bytes) 0 0) (getD (s .bytes) 1 0) (getD (s .bytes) 2 0) b) (ltb-false (s .carried) 3 e)))
+    (λ e. judged-four s (decodeOf (s .bus .devices) (getD (s .bytes) 0 0) (getD (s .bytes) 1 0) (getD (s .bytes) 2 0) b) (ltb-false (s .carried) 3 e)))
     (λ _. omega arith)))
     (λ _. omega arith)
 
@@ -80,7 +74,7 @@ run-code s (b ∷ xs) =
 
 -- no state in its ranges holds 7: a call gives it, and keeps none
 pub held-not-7 : (s : Reader) → rangesOf s ≡ true → s .held ≡ 7 → ⊥
-held-not-7 s h e = omega (arith, leb-true (s .held) 5 (ranges s h .held))
+held-not-7 s h e = not-seven (s .held) (ranges s h .held) e
 
 -- ---- a turn
 

@@ -1,3 +1,4 @@
+pub mod Held
 pub mod Ways
 pub mod Run
 pub mod Places

@@ -1,4 +1,4 @@
--- `stands`: where a call stands, by its code, whatever the state, the bytes and the room. 0: all is consumed. 1 to 5, and 7: the byte at the
+-- `stands`: where a call stands, by its code, whatever the state, the bytes and the room. 0: all is consumed. 1 to 5, 7 and 9: the byte at the
 -- place `consumed` is the one refused, or the one that completes a record without room. 8 and a held code: nothing moves.
 -- Assumes nothing.
 use Prim.Native.Nat.{ℕ, _+_, _-_, _≤_, _<_}
@@ -9,13 +9,14 @@ use native.Mathlib.Numerals.{one-add}
 use native.Mathlib.Omega.{arith}
 use lib.Dec.{eqb}
 use lib.ListN.{length, take, length-append}
-use borrow.Author.Tests.{leb-true, eqb-true, eqb-false}
+use borrow.Author.Tests.{eqb-true, eqb-false}
 use Rattle.laws.proofs.Choices.{cond-ind, by-test, clash}
 use Rattle.capture.specs.declared.Reader.{Reader}
 use Rattle.capture.specs.Reader.{Turn, Out, holdOf, quietOf, stopOf, refuseOf, joinOf, turnOf, pairOf, rangesOf, feedOf, callOf}
 use Rattle.capture_laws.specs.Codes.{lastingOf}
 use Rattle.capture_laws.specs.Places.{Unmoved, byteAt, takenOf, EndsBefore, Stands}
-use Rattle.capture_laws.proofs.Ways.{Lasts, way, refused}
+use Rattle.capture_laws.proofs.Ways.{Lasts, apart, way, refused}
+use Rattle.capture_laws.proofs.Held.{not-seven}
 use Rattle.capture.proofs.InRange.{ranges}
 use Rattle.capture.proofs.Outcomes.{feed-stop, feed-full, feed-on}
 use Rattle.capture_laws.proofs.Run.{cases, held-stays}
@@ -44,7 +45,7 @@ pub data Ending (s : Reader) (xs : List ℕ) (room : ℕ) : Out → Type 0 where
 pub when-full : {s : Reader} {xs : List ℕ} {room : ℕ} {o : Out} → Ending s xs room o → o .code ≡ 7
     → Full s xs room (o .consumed) (o .answers) (o .reader)
 when-full (at-end n answers t e) q = absurd (omega arith)
-when-full (at-refusal n answers t code r m j) q = absurd (omega arith)
+when-full (at-refusal n answers t code r m j) q = absurd (apart m refl q)
 when-full (at-full n answers t f) q = f
 
 -- no byte, and no code held
@@ -127,11 +128,11 @@ module _ (s : Reader) (xs : List ℕ) (room : ℕ) where
       }
   by-ending r z (at-refusal n answers t code p m j) =
       record {
-        done = λ q. absurd (omega arith);
-        out-of-ranges = λ q. absurd (omega arith);
+        done = λ q. absurd (apart m refl q);
+        out-of-ranges = λ q. absurd (apart m refl q);
         held = λ h. absurd (h z);
         refuses = λ _ _. record { before = t; place = before r p; judged = j; reader = refl };
-        waits = λ q. absurd (omega arith);
+        waits = λ q. absurd (apart m refl q);
       }
   by-ending r z (at-full n answers t f) =
       record {
@@ -155,12 +156,11 @@ module _ (s : Reader) (xs : List ℕ) (room : ℕ) where
 
   pub feed-stands : rangesOf s ≡ true → Stands s xs room (feedOf s xs room)
   feed-stands r =
-      let most = leb-true (s .held) 5 (ranges s r .held) in
       by-test (eqb (s .held) 0)
       (λ e. let z = eqb-true (s .held) 0 e in by-ending r z (ending s xs room z))
       (λ e.
       let n = eqb-false (s .held) 0 e in
-      subst (Stands s xs room) (sym (feed-held s xs room n)) (still n (λ q. omega arith) (λ z _. n z)))
+      subst (Stands s xs room) (sym (feed-held s xs room n)) (still n (not-seven (s .held) (ranges s r .held)) (λ z _. n z)))
 
   pub stands : Stands s xs room (callOf s xs room)
   stands =

@@ -4,3 +4,4 @@ pub mod Places
 pub mod Events
 pub mod Written
 pub mod Examples
+pub mod PairExamples

@@ -28,7 +28,7 @@ pub record EndsBefore (s : Reader) (xs : List ℕ) (room : ℕ) (o : Out) (befor
   pub there : o .consumed < length xs
   pub front : callOf s (take (o .consumed) xs) room ≡ takenOf (o .consumed) (o .answers) before
 
--- 1 to 5: from the state before it the byte is refused with the code, and the end state is that state, holding the code
+-- 1 to 5, and 9: from the state before it the byte is refused with the code, and the end state is that state, holding the code
 pub record Refuses (s : Reader) (xs : List ℕ) (room : ℕ) (o : Out) : Type 0 where
   pub before : Reader
   pub place : EndsBefore s xs room o before
@@ -49,7 +49,7 @@ pub record Stands (s : Reader) (xs : List ℕ) (room : ℕ) (o : Out) : Type 0 w
   -- 8, and a lasting code already held
   pub out-of-ranges : o .code ≡ 8 → Unmoved s o
   pub held : (s .held ≡ 0 → ⊥) → Unmoved s o
-  -- 1 to 5, none held before
+  -- 1 to 5 and 9, none held before
   pub refuses : s .held ≡ 0 → lastingOf (o .code) ≡ true → Refuses s xs room o
   -- 7
   pub waits : o .code ≡ 7 → Waits s xs room o

@@ -103,7 +103,7 @@ run-requires c κs =
     let f = c .before .before in
     let l = f .before .before .before in
     let on = onto (l .lead .ensures) (f .if2 .left) in
-    (here l .ok, (on .1, (on .0, omega (arith, c .before .if3 .left))))
+    record { ok = here l .ok; waits = on .1; within = on .0; room = omega (arith, c .before .if3 .left) }
 
 same-length-3 : tie.Need-same-length-3 Inv-loop μ-loop
 same-length-3 c = search needs

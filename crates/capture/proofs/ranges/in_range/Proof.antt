@@ -18,8 +18,7 @@ all-requires c κs = search needs
 
 returns : tie.Need-returns
 unfolding rangesOf
-returns c = simp (c .all .ensures, c .before .before .ranges .ensures, c .before .before .before .before .place .ensures)
+returns c = simp (c .all .ensures, c .before .before .ranges .ensures, c .before .before .before .before .before .place .ensures)
 
 pub in-range-spec : {M : Type 1} → statement M
-in-range-spec =
-    tie.close (tie.spec place-requires ranges-requires slice-aggregate-all all-requires returns)
+in-range-spec = tie.close (tie.spec place-requires ranges-requires slice-aggregate-all all-requires returns)

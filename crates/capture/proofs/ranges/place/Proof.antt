@@ -19,8 +19,11 @@ cast-count c = search needs
 complete-requires : tie.Need-complete-requires
 complete-requires c κs = search needs
 
-header-length-requires : tie.Need-header-length-requires
-header-length-requires c κs = search needs
+within-requires : tie.Need-within-requires
+within-requires c κs = search needs
+
+taken-requires : tie.Need-taken-requires
+taken-requires c κs = search needs
 
 count-place-requires : tie.Need-count-place-requires
 count-place-requires c κs = search needs
@@ -38,8 +41,15 @@ returns : tie.Need-returns
 unfolding placeOf
 returns c =
     let l = c .before .before .before .before in
-    let f = l .before .before .before .before .before .before .before .before .before in
-    simp (c .all .ensures, l .limit .ensures, l .before .count-place .ensures, f .header-length .ensures, f .before .complete .ensures)
+    let w = l .before .before .before .before .before .before .before .before .before in
+    simp (
+      c .all .ensures,
+      l .limit .ensures,
+      l .before .count-place .ensures,
+      l .before .before .taken .ensures,
+      w .within .ensures,
+      w .before .complete .ensures,
+    )
 
 pub place-spec : {M : Type 1} → statement M
 place-spec =
@@ -50,7 +60,8 @@ place-spec =
     array-read-third
     cast-count
     complete-requires
-    header-length-requires
+    within-requires
+    taken-requires
     count-place-requires
     limit-requires
     slice-aggregate-all

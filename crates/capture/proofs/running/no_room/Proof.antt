@@ -34,10 +34,10 @@ returns : tie.Need-returns
 returns c = λ o input entry answers g l e n.
     let told = c .before .before .enum-told2 .given .1 in
     let d = c .before .before .before .before in
-    let b = d .before .before in
+    let b = d .before .before .before in
     let w = waiting (b .args .s) (b .pre .0) (b .pre .1) in
     rw (c .refused .ensures, c .before .code .ensures, told)
-    (ends-refused w g l _ (ap (decodeOf _ _ _) e ∙ sym (d .decode .ensures) ∙ told))
+    (ends-refused w g l _ (ap (decodeOf _ _ _ _) e ∙ sym (d .decode .ensures) ∙ told))
 
 report-requires : tie.Need-report-requires
 report-requires c κs = search needs
@@ -45,10 +45,10 @@ report-requires c κs = search needs
 returns-2 : tie.Need-returns-2
 returns-2 c = λ o input entry answers g l e n.
     let d = c .before .before .before in
-    let b = d .before .before in
+    let b = d .before .before .before in
     let w = waiting (b .args .s) (b .pre .0) (b .pre .1) in
     rw (c .report .ensures)
-    (ends-full w g l _ (ap (decodeOf _ _ _) e ∙ sym (d .decode .ensures) ∙ c .before .enum-told .given .1) n)
+    (ends-full w g l _ (ap (decodeOf _ _ _ _) e ∙ sym (d .decode .ensures) ∙ c .before .enum-told .given .1) n)
 
 pub no-room-spec : {M : Type 1} → statement M
 no-room-spec =

@@ -1,8 +1,11 @@
 -- Assumes nothing.
 use borrow.Author.Needs.{needs}
 use borrow.Author.Tests.{ltb-true}
+use native.Mathlib.Omega.{arith}
+use Prim.Native.Nat.{_<_}
 use mathlib.Core.Path.{sym, _∙_}
-use Rattle.capture.proofs.InRange.{completed, count-small}
+use Rattle.capture.specs.Reader.{headerLengthOf}
+use Rattle.capture.proofs.InRange.{completed, short-header, count-small}
 use Rattle.capture.proofs.Records.{not-waiting}
 use Rattle.capture.proofs.Turns.{held-turn, head-turn, carried-turn, past-turn}
 use Rattle.capture.proofs.taking.take_quiet.Statement.{statement}
@@ -17,8 +20,8 @@ ahead-requires c κs = search needs
 head-byte-requires : tie.Need-head-byte-requires
 head-byte-requires c κs =
     let b = c .before .before .before .before in
-    let inside = ltb-true _ _ (sym (c .before .ahead .ensures) ∙ c .if2 .taken) in
-    (inside, count-small (b .args .s) (b .pre .0) inside)
+    let inside : b .args .s .head < headerLengthOf (b .args .s) = ltb-true _ _ (sym (c .before .ahead .ensures) ∙ c .if2 .taken) in
+    (omega (arith, inside, short-header (b .args .s) (b .pre .0)), count-small (b .args .s) (b .pre .0) inside)
 
 returns-2 : tie.Need-returns-2
 returns-2 c =

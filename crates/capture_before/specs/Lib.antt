@@ -1,0 +1,3 @@
+pub mod BeforePair
+pub mod AsBefore
+pub mod Examples
