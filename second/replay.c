@@ -12,14 +12,16 @@
  *   S  four bytes                       step: code, two answer bytes, device dump
  *   W  four bytes, room 2               write event: code, the room
  *   H  variant, count 4, room 2         write header: code, the room
- *   B  four bytes                       decode: code, kind, three operands
+ *   G  first, second, count 4, room 2   write header of two variants: code, the room
+ *   B  device count, four bytes         decode: code, kind, three operands
  *   C  length 4, room 4, bytes          run: result 8, the room
  *
- * A dump has the fields in the order of second.h, so the device's dump is the
- * last part of its reader's; a bool is 0 or 1, and loaded as true if not 0.
- * The four bytes of S, W and B are a record's, and may be any bytes.  Status 1
- * with a message on an unknown command, a capture or room above 1,000,000 in C,
- * or a stream cut inside a call. */
+ * A dump has the fields in the order of second.h: a device's is 27 bytes, and a
+ * reader's 69, of which the last 55 are its bus: the device count and the dumps of
+ * both devices, the second's there with one device too.  A bool is 0 or 1, and loaded
+ * as true if not 0.  The four bytes of S, W and B are a record's, and may be any bytes,
+ * as may the device count of B.  Status 1 with a message on an unknown command, a
+ * capture or room above 1,000,000 in C, or a stream cut inside a call. */
 #include "second.h"
 
 #include <stdio.h>
@@ -28,7 +30,7 @@
 
 enum {
     DEVICE_DUMP = 27,
-    READER_DUMP = 41,
+    READER_DUMP = 14 + 1 + 2 * DEVICE_DUMP,
     CAPTURE_MOST = 1000000,
     FILL = 0xA5
 };
@@ -156,7 +158,9 @@ static void load_reader(second_reader *reader, const uint8_t *dump)
     reader->carried = dump[9];
     memcpy(reader->carry, dump + 10, 3);
     reader->held = dump[13];
-    load_device(&reader->device, dump + 14);
+    reader->bus.devices = dump[14];
+    load_device(&reader->bus.first, dump + 15);
+    load_device(&reader->bus.second, dump + 15 + DEVICE_DUMP);
 }
 
 static void put_reader(const second_reader *reader)
@@ -167,7 +171,9 @@ static void put_reader(const second_reader *reader)
     put_byte(reader->carried);
     put(reader->carry, 3);
     put_byte(reader->held);
-    put_device(&reader->device);
+    put_byte(reader->bus.devices);
+    put_device(&reader->bus.first);
+    put_device(&reader->bus.second);
 }
 
 static second_event get_event(void)
@@ -284,12 +290,27 @@ static void call_write_header(void)
     free(buffer);
 }
 
+static void call_write_header_2(void)
+{
+    uint8_t first = (uint8_t)get_number(1);
+    uint8_t second = (uint8_t)get_number(1);
+    uint32_t count = get_number(4);
+    uint32_t room = get_number(2);
+    uint8_t *buffer = lend(room);
+    uint8_t code = second_write_header_2(first, second, count, buffer, room);
+    put_byte('G');
+    put_byte(code);
+    put(buffer, room);
+    free(buffer);
+}
+
 static void call_decode(void)
 {
+    uint8_t devices = (uint8_t)get_number(1);
     uint8_t record[SECOND_RECORD_BYTES];
     second_event event;
     get(record, sizeof record);
-    uint8_t code = second_decode(record, &event);
+    uint8_t code = second_decode(devices, record, &event);
     put_byte('B');
     put_byte(code);
     put_byte(event.kind);
@@ -347,6 +368,9 @@ static void answer(second_reader *reader, second_device *device)
         break;
     case 'H':
         call_write_header();
+        break;
+    case 'G':
+        call_write_header_2();
         break;
     case 'B':
         call_decode();

@@ -1,6 +1,6 @@
 /* The core of the second implementation; see second.h and NOTES.md.
- * P1 to P12 are the rulings of document 01; a and b are document 02's requests, a
- * in the place of P12's first sentence, b beside P2. */
+ * P1 to P12 are the rulings of document 01; a, b and c are document 02's requests, a
+ * in the place of P12's first sentence, b beside P2, c over the whole bus. */
 #include "second.h"
 
 #include <string.h>
@@ -162,6 +162,17 @@ static bool variant_known(uint8_t variant)
     return variant >= 1 && variant <= 3;
 }
 
+/* Two known variants with one address, which cannot share a bus (c). */
+static bool one_address(uint8_t first, uint8_t second)
+{
+    return part[first & 3].address == part[second & 3].address;
+}
+
+static inline uint8_t own_address(const second_device *device)
+{
+    return part[device->variant & 3].address;
+}
+
 /* ---- Temperatures (P1) ------------------------------------------------- */
 
 static inline int degrees(uint8_t byte)
@@ -230,6 +241,19 @@ bool second_device_in_range(const second_device *device)
     return variant_known(device->variant) && rest_in_range(device);
 }
 
+/* c: a second device that is not there is all zeros.  Field by field, since padding
+ * is no part of a state. */
+static bool all_zeros(const second_device *device)
+{
+    unsigned any = device->variant | device->pointer | device->pending;
+    any |= device->status | device->local | (uint16_t)device->remote | device->live;
+    any |= device->faults | device->local_latch | device->remote_latch;
+    for (size_t i = 0; i < SECOND_SETTINGS; i++)
+        any |= device->settings[i];
+    any |= device->low | device->lowkept;
+    return any == 0;
+}
+
 /* P7 */
 static inline bool alert_pulled(const second_device *device)
 {
@@ -245,6 +269,19 @@ static inline bool t_crit_a_pulled(const second_device *device)
     uint8_t configuration = device->settings[SET_CONFIGURATION];
     return (device->local_latch & ((configuration & LOCAL_CRIT_MASK) == 0)) |
            (device->remote_latch & ((configuration & REMOTE_CRIT_MASK) == 0));
+}
+
+/* What both lines show in the first answer byte. */
+static inline unsigned lines(const second_device *device)
+{
+    return (alert_pulled(device) ? ANSWER_ALERT : 0u) |
+           (t_crit_a_pulled(device) ? ANSWER_T_CRIT_A : 0u);
+}
+
+/* P9: ALERT is pulled and the mode is the one with an alert response. */
+static inline bool answers_alert(const second_device *device)
+{
+    return (device->settings[SET_FILTER_ALERT] & COMPARATOR) == 0 && alert_pulled(device);
 }
 
 /* P6 */
@@ -405,9 +442,9 @@ static inline unsigned convert_sample(second_device *device, second_event event)
 /* P9 and P10: true if the receive is acknowledged. */
 static bool receive(second_device *device, uint8_t address, uint8_t *value)
 {
-    uint8_t own = part[device->variant & 3].address;
+    uint8_t own = own_address(device);
     if (address == ALERT_RESPONSE) {
-        if ((device->settings[SET_FILTER_ALERT] & COMPARATOR) != 0 || !alert_pulled(device))
+        if (!answers_alert(device))
             return false;
         *value = (uint8_t)(own * 2u + 1u);
         device->settings[SET_CONFIGURATION] |= ALERT_MASK;
@@ -424,11 +461,12 @@ static inline unsigned point_at(second_device *device, uint8_t address)
     return ANSWER_ACKNOWLEDGED;
 }
 
-/* One event within the table, on a device within its ranges. */
+/* One event within the table, on a device within its ranges.  Kinds 08 and 09 do not
+ * come here: to the device that takes them they are 05 and 06. */
 static inline void apply(second_device *device, second_event event,
                          uint8_t *first, uint8_t *second)
 {
-    uint8_t own = part[device->variant & 3].address;
+    uint8_t own = own_address(device);
     uint8_t value = 0;
     unsigned shown = 0; /* in the first answer byte, besides the pins */
 
@@ -460,33 +498,68 @@ static inline void apply(second_device *device, second_event event,
         break;
     }
 
-    *first = (uint8_t)((alert_pulled(device) ? ANSWER_ALERT : 0) |
-                       (t_crit_a_pulled(device) ? ANSWER_T_CRIT_A : 0) | shown);
+    *first = (uint8_t)(lines(device) | shown);
     *second = value;
+}
+
+/* ---- Two devices on one bus (c) ---------------------------------------- */
+
+/* Who answers an alert response: the lower address of those that P9 lets answer.  If
+ * it lets none, the higher address is given, and does not answer. */
+static bool second_answers_alert(const second_bus *bus)
+{
+    bool second_lower = own_address(&bus->second) < own_address(&bus->first);
+    const second_device *lower = second_lower ? &bus->second : &bus->first;
+    return answers_alert(lower) == second_lower;
+}
+
+/* True if the event is the second device's to take.  Else it is the first's, which
+ * also takes what is addressed to neither, and by P10 does nothing. */
+static inline bool names_second(const second_bus *bus, second_event event)
+{
+    if (event.kind > SECOND_RECEIVE)
+        return event.kind >= SECOND_CONVERSION_2;
+    if (event.kind == SECOND_RECEIVE && event.a == ALERT_RESPONSE)
+        return second_answers_alert(bus);
+    return event.a == own_address(&bus->second);
+}
+
+/* One event within the table, on two devices within their ranges: the one it names
+ * takes it, the other is as it was but for power-on, and the lines are joined. */
+static inline void apply_pair(second_bus *bus, second_event event,
+                              uint8_t *first, uint8_t *second)
+{
+    bool of_second = names_second(bus, event);
+    second_device *named = of_second ? &bus->second : &bus->first;
+    second_device *other = of_second ? &bus->first : &bus->second;
+
+    if (event.kind >= SECOND_CONVERSION_2)
+        event.kind -= SECOND_CONVERSION_2 - SECOND_CONVERSION;
+    else if (event.kind == SECOND_POWER_ON)
+        second_power_on(other, other->variant);
+    apply(named, event, first, second);
+    *first |= (uint8_t)lines(other);
 }
 
 /* ---- Events and records ------------------------------------------------ */
 
 /* The operand table as bits of a, b and c that must be 0, by kind. */
-static const uint8_t must_be_zero[SECOND_POWER_ON + 1][3] = {
+static const uint8_t must_be_zero[SECOND_OPEN_2 + 1][3] = {
     [SECOND_WRITE] = { 0x80, 0x00, 0x00 },
     [SECOND_READ] = { 0x80, 0x00, 0xFF },
     [SECOND_SEND] = { 0x80, 0x00, 0xFF },
     [SECOND_RECEIVE] = { 0x80, 0xFF, 0xFF },
     [SECOND_CONVERSION] = { 0x00, 0x00, LOW_BYTE_UNUSED },
     [SECOND_CONVERSION_OPEN] = { 0x00, 0xFF, 0xFF },
-    [SECOND_POWER_ON] = { 0xFF, 0xFF, 0xFF }
+    [SECOND_POWER_ON] = { 0xFF, 0xFF, 0xFF },
+    [SECOND_CONVERSION_2] = { 0x00, 0x00, LOW_BYTE_UNUSED },
+    [SECOND_OPEN_2] = { 0x00, 0xFF, 0xFF }
 };
 
-static inline bool kind_known(uint8_t kind)
+/* 3, 4 or 0 for the four bytes of a record; kinds 08 and 09 are known of a pair only. */
+static inline uint8_t judge(bool pair, second_event record)
 {
-    return kind >= SECOND_WRITE && kind <= SECOND_POWER_ON;
-}
-
-/* 3, 4 or 0 for the four bytes of a record. */
-static inline uint8_t judge(second_event record)
-{
-    if (!kind_known(record.kind))
+    if (record.kind < SECOND_WRITE || record.kind > (pair ? SECOND_OPEN_2 : SECOND_POWER_ON))
         return SECOND_KIND;
     const uint8_t *zero = must_be_zero[record.kind];
     if (((record.a & zero[0]) | (record.b & zero[1]) | (record.c & zero[2])) != 0)
@@ -494,18 +567,19 @@ static inline uint8_t judge(second_event record)
     return SECOND_OK;
 }
 
-uint8_t second_decode(const uint8_t record[SECOND_RECORD_BYTES], second_event *event)
+uint8_t second_decode(uint8_t devices, const uint8_t record[SECOND_RECORD_BYTES],
+                      second_event *event)
 {
     static const second_event none = { 0, 0, 0, 0 };
     second_event raw = { record[0], record[1], record[2], record[3] };
-    uint8_t code = judge(raw);
+    uint8_t code = judge(devices == 2, raw);
     *event = code == SECOND_OK ? raw : none;
     return code;
 }
 
 uint8_t second_write_event(second_event event, uint8_t *out, size_t room)
 {
-    uint8_t code = judge(event);
+    uint8_t code = judge(true, event);
     if (code != SECOND_OK)
         return code;
     if (room < SECOND_RECORD_BYTES)
@@ -517,6 +591,14 @@ uint8_t second_write_event(second_event event, uint8_t *out, size_t room)
     return SECOND_OK;
 }
 
+static void put_count(uint32_t count, uint8_t *out)
+{
+    out[0] = (uint8_t)(count >> 24);
+    out[1] = (uint8_t)(count >> 16);
+    out[2] = (uint8_t)(count >> 8);
+    out[3] = (uint8_t)count;
+}
+
 uint8_t second_write_header(uint8_t variant, uint32_t count, uint8_t *out, size_t room)
 {
     if (!variant_known(variant))
@@ -525,10 +607,23 @@ uint8_t second_write_header(uint8_t variant, uint32_t count, uint8_t *out, size_
         return SECOND_ROOM;
     out[0] = 1;
     out[1] = variant;
-    out[2] = (uint8_t)(count >> 24);
-    out[3] = (uint8_t)(count >> 16);
-    out[4] = (uint8_t)(count >> 8);
-    out[5] = (uint8_t)count;
+    put_count(count, out + 2);
+    return SECOND_OK;
+}
+
+uint8_t second_write_header_2(uint8_t first, uint8_t second, uint32_t count,
+                              uint8_t *out, size_t room)
+{
+    if (!variant_known(first) || !variant_known(second))
+        return SECOND_VARIANT;
+    if (one_address(first, second))
+        return SECOND_ADDRESS;
+    if (room < SECOND_HEADER_2_BYTES)
+        return SECOND_ROOM;
+    out[0] = 2;
+    out[1] = first;
+    out[2] = second;
+    put_count(count, out + 3);
     return SECOND_OK;
 }
 
@@ -537,7 +632,7 @@ second_step_result second_step(second_device *device, second_event event)
     second_step_result result = { SECOND_STATE, 0, 0 };
     if (!second_device_in_range(device))
         return result;
-    result.code = judge(event);
+    result.code = judge(false, event);
     if (result.code == SECOND_OK)
         apply(device, event, &result.first, &result.second);
     return result;
@@ -550,12 +645,41 @@ void second_fresh(second_reader *reader)
     memset(reader, 0, sizeof *reader);
 }
 
+/* c: the device count, then one or two variants, then four bytes of record count. */
+static unsigned header_bytes(const second_bus *bus)
+{
+    return 5u + bus->devices;
+}
+
+static bool header_complete(const second_reader *reader)
+{
+    return reader->header == header_bytes(&reader->bus);
+}
+
+/* c: the ranges of the bus, with this many header bytes taken. */
+static bool bus_in_range(const second_bus *bus, uint8_t header)
+{
+    if (header == 0 && bus->devices != 0)
+        return false;
+    if (header > 0 && bus->devices != 1 && bus->devices != 2)
+        return false;
+    if (header >= 2 && !variant_known(bus->first.variant))
+        return false;
+    if (!rest_in_range(&bus->first))
+        return false;
+    if (bus->devices != 2 || header < 3)
+        return all_zeros(&bus->second);
+    return second_device_in_range(&bus->second) &&
+           !one_address(bus->first.variant, bus->second.variant);
+}
+
 bool second_reader_in_range(const second_reader *reader)
 {
-    bool complete = reader->header == SECOND_HEADER_BYTES;
-
-    if (reader->header > SECOND_HEADER_BYTES)
+    if (!bus_in_range(&reader->bus, reader->header))
         return false;
+    if (reader->header > header_bytes(&reader->bus))
+        return false;
+    bool complete = header_complete(reader);
     if (reader->carried > 3)
         return false;
     if (reader->carried > 0 && (!complete || reader->done == reader->count))
@@ -563,10 +687,9 @@ bool second_reader_in_range(const second_reader *reader)
     for (size_t i = reader->carried; i < 3; i++)
         if (reader->carry[i] != 0)
             return false;
-    if (reader->header >= 2 && !variant_known(reader->device.variant))
-        return false;
     if (!complete) {
-        unsigned count_bytes = reader->header > 2 ? reader->header - 2u : 0u;
+        unsigned before = 1u + reader->bus.devices; /* header bytes before the count's */
+        unsigned count_bytes = reader->header > before ? reader->header - before : 0u;
         if (reader->count >> (8u * count_bytes) != 0) /* by at most 24 */
             return false;
         if (reader->done != 0)
@@ -574,42 +697,57 @@ bool second_reader_in_range(const second_reader *reader)
     }
     if (reader->done > reader->count)
         return false;
-    if (reader->held > SECOND_EXTRA)
-        return false;
-    return rest_in_range(&reader->device);
+    return reader->held <= SECOND_EXTRA || reader->held == SECOND_ADDRESS;
+}
+
+/* Judge a variant byte and, on 0, power its device on.  9 is for the second alone:
+ * the first has none to share an address with. */
+static uint8_t take_variant(second_bus *bus, bool of_second, uint8_t byte)
+{
+    if (!variant_known(byte))
+        return SECOND_VARIANT;
+    if (of_second && one_address(bus->first.variant, byte))
+        return SECOND_ADDRESS;
+    second_power_on(of_second ? &bus->second : &bus->first, byte);
+    return SECOND_OK;
 }
 
 /* Judge one header byte and, on 0, take it. */
 static uint8_t take_header_byte(second_reader *reader, uint8_t byte)
 {
+    uint8_t code = SECOND_OK;
     if (reader->header == 0) {
-        if (byte != 1)
+        if (byte != 1 && byte != 2)
             return SECOND_DEVICE_COUNT;
-    } else if (reader->header == 1) {
-        if (!variant_known(byte))
-            return SECOND_VARIANT;
-        second_power_on(&reader->device, byte);
+        reader->bus.devices = byte;
+    } else if (reader->header <= reader->bus.devices) {
+        code = take_variant(&reader->bus, reader->header == 2, byte);
     } else {
         reader->count = reader->count << 8 | byte;
     }
-    reader->header++;
-    return SECOND_OK;
+    if (code == SECOND_OK)
+        reader->header++;
+    return code;
 }
 
-/* Judge four bytes as a record and, on 0, step the device and write the answer
- * pair behind what is written. */
-static inline uint8_t take_record(second_device *device, const uint8_t *record,
+/* Judge four bytes as a record and, on 0, step the bus and write the answer pair
+ * behind what is written.  Pair is whether the bus has two devices; the loop over whole
+ * records knows it beforehand, so that one device pays nothing for a second. */
+static inline uint8_t take_record(second_bus *bus, bool pair, const uint8_t *record,
                                   uint8_t *answers, size_t room, size_t written)
 {
     second_event event = { record[0], record[1], record[2], record[3] };
-    uint8_t code = judge(event);
+    uint8_t code = judge(pair, event);
     if (code != SECOND_OK)
         return code;
     if (room - written < SECOND_ANSWER_BYTES)
         return SECOND_ROOM;
     uint8_t first;
     uint8_t second;
-    apply(device, event, &first, &second);
+    if (pair)
+        apply_pair(bus, event, &first, &second);
+    else
+        apply(&bus->first, event, &first, &second);
     answers[written] = first;
     answers[written + 1] = second;
     return SECOND_OK;
@@ -618,9 +756,9 @@ static inline uint8_t take_record(second_device *device, const uint8_t *record,
 /* Records that lie whole in the input, none being carried: until the count is
  * reached, fewer than four bytes are left, or a record is not taken.  The
  * first three bytes of that record are consumed and carried. */
-static uint8_t take_whole_records(second_reader *reader,
-                                  const uint8_t *input, size_t length, size_t *at,
-                                  uint8_t *answers, size_t room, size_t *written)
+static inline uint8_t take_records(second_reader *reader, bool pair,
+                                   const uint8_t *input, size_t length, size_t *at,
+                                   uint8_t *answers, size_t room, size_t *written)
 {
     size_t in = *at;
     size_t out = *written;
@@ -628,7 +766,7 @@ static uint8_t take_whole_records(second_reader *reader,
     uint8_t code = SECOND_OK;
 
     while (left > 0 && length - in >= SECOND_RECORD_BYTES) {
-        code = take_record(&reader->device, input + in, answers, room, out);
+        code = take_record(&reader->bus, pair, input + in, answers, room, out);
         if (code != SECOND_OK) {
             memcpy(reader->carry, input + in, 3);
             reader->carried = 3;
@@ -644,6 +782,45 @@ static uint8_t take_whole_records(second_reader *reader,
     *at = in;
     *written = out;
     return code;
+}
+
+/* The same, as one loop for one device and one for two. */
+static uint8_t take_whole_records(second_reader *reader,
+                                  const uint8_t *input, size_t length, size_t *at,
+                                  uint8_t *answers, size_t room, size_t *written)
+{
+    if (reader->bus.devices == 2)
+        return take_records(reader, true, input, length, at, answers, room, written);
+    return take_records(reader, false, input, length, at, answers, room, written);
+}
+
+/* Carry a byte of a record that does not lie whole in the input, or judge it as the
+ * record's fourth and, on 0, take the record. */
+static uint8_t take_record_byte(second_reader *reader, uint8_t byte,
+                                uint8_t *answers, size_t room, size_t *written)
+{
+    if (reader->carried < 3) {
+        reader->carry[reader->carried] = byte;
+        reader->carried++;
+        return SECOND_OK;
+    }
+    uint8_t record[SECOND_RECORD_BYTES];
+    memcpy(record, reader->carry, 3);
+    record[3] = byte;
+    uint8_t code = take_record(&reader->bus, reader->bus.devices == 2, record,
+                               answers, room, *written);
+    if (code == SECOND_OK) {
+        memset(reader->carry, 0, sizeof reader->carry);
+        reader->carried = 0;
+        reader->done++;
+        *written += SECOND_ANSWER_BYTES;
+    }
+    return code;
+}
+
+static bool lasting(uint8_t code)
+{
+    return (code >= SECOND_DEVICE_COUNT && code <= SECOND_EXTRA) || code == SECOND_ADDRESS;
 }
 
 second_feed_result second_feed(second_reader *reader,
@@ -665,34 +842,22 @@ second_feed_result second_feed(second_reader *reader,
     uint8_t code = SECOND_OK;
 
     while (at < length && code == SECOND_OK) {
-        if (reader->header < SECOND_HEADER_BYTES) {
+        size_t taken = 1;
+        if (!header_complete(reader)) {
             code = take_header_byte(reader, input[at]);
-            if (code == SECOND_OK)
-                at++;
         } else if (reader->done == reader->count) {
             code = SECOND_EXTRA;
         } else if (reader->carried == 0 && length - at >= SECOND_RECORD_BYTES) {
             code = take_whole_records(reader, input, length, &at, answers, room, &written);
-        } else if (reader->carried < 3) {
-            reader->carry[reader->carried] = input[at];
-            reader->carried++;
-            at++;
+            taken = 0; /* counted there */
         } else {
-            uint8_t record[SECOND_RECORD_BYTES];
-            memcpy(record, reader->carry, 3);
-            record[3] = input[at];
-            code = take_record(&reader->device, record, answers, room, written);
-            if (code == SECOND_OK) {
-                memset(reader->carry, 0, sizeof reader->carry);
-                reader->carried = 0;
-                reader->done++;
-                written += SECOND_ANSWER_BYTES;
-                at++;
-            }
+            code = take_record_byte(reader, input[at], answers, room, &written);
         }
+        if (code == SECOND_OK)
+            at += taken;
     }
 
-    if (code >= SECOND_DEVICE_COUNT && code <= SECOND_EXTRA)
+    if (lasting(code))
         reader->held = code;
     result.code = code;
     result.consumed = at;
@@ -706,7 +871,7 @@ uint8_t second_finish(const second_reader *reader)
         return SECOND_STATE;
     if (reader->held != SECOND_OK)
         return reader->held;
-    if (reader->header < SECOND_HEADER_BYTES || reader->done != reader->count)
+    if (!header_complete(reader) || reader->done != reader->count)
         return SECOND_UNFINISHED;
     return SECOND_OK;
 }

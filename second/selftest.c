@@ -1,5 +1,5 @@
-/* Hand-made scripts from the rulings of document 01 and from requests a and b of
- * document 02, every sum of sample and offset, and the cut test.
+/* Hand-made scripts from the rulings of document 01 and from requests a, b and c of
+ * document 02, every sum of sample and offset, every header, ranges, and the cut tests.
  *   gcc -std=c11 -Wall -Wextra -Werror -pedantic -g -fsanitize=address,undefined \
  *       second.c selftest.c -o selftest && ./selftest */
 #include "second.h"
@@ -24,21 +24,93 @@ typedef struct {
     uint8_t first, second;
 } script_line;
 
-static void run_script(const char *name, uint8_t variant, const script_line *line, size_t lines)
+static void expect(const char *name, size_t number, const script_line *line,
+                   uint8_t code, uint8_t first, uint8_t second)
+{
+    if (code == 0 && first == line->first && second == line->second)
+        return;
+    printf("wrong: %s, record %zu: %u %02X %02X, not 0 %02X %02X\n", name, number,
+           code, first, second, line->first, line->second);
+    wrong++;
+}
+
+static void run_alone(const char *name, uint8_t variant, const script_line *line, size_t lines)
 {
     second_device device;
     second_power_on(&device, variant);
     for (size_t i = 0; i < lines; i++) {
         second_event event;
-        check(second_decode(line[i].record, &event) == 0, name, (int)i + 1);
+        check(second_decode(1, line[i].record, &event) == 0, name, (int)i + 1);
         second_step_result got = second_step(&device, event);
-        if (got.code != 0 || got.first != line[i].first || got.second != line[i].second) {
-            printf("wrong: %s, record %zu: %u %02X %02X, not 0 %02X %02X\n", name, i + 1,
-                   got.code, got.first, got.second, line[i].first, line[i].second);
-            wrong++;
-        }
+        expect(name, i + 1, &line[i], got.code, got.first, got.second);
     }
 }
+
+/* A reader with its header taken: one device if the second variant is 0, else two. */
+static void begin(second_reader *reader, uint8_t first, uint8_t second, uint32_t count)
+{
+    uint8_t header[SECOND_HEADER_2_BYTES];
+    size_t length = second == 0 ? SECOND_HEADER_BYTES : SECOND_HEADER_2_BYTES;
+    if (second == 0)
+        CHECK(second_write_header(first, count, header, length) == 0);
+    else
+        CHECK(second_write_header_2(first, second, count, header, length) == 0);
+    second_fresh(reader);
+    second_feed_result fed = second_feed(reader, header, length, NULL, 0);
+    CHECK(fed.code == 0 && fed.consumed == length && fed.written == 0);
+}
+
+/* The same script in the reader.  Place 0: the device alone.  Else beside a quiet one of
+ * another address, as the first or the second of the two; there, what the script has at
+ * that other address is left out, and conversions are those of the device's place. */
+static void run_beside(const char *name, uint8_t variant, uint8_t place,
+                       const script_line *line, size_t lines)
+{
+    uint8_t quiet = variant == 1 ? 2 : 1;
+    uint8_t quiet_address = variant == 1 ? 0x4D : 0x4C;
+    second_reader reader;
+    if (place == 2)
+        begin(&reader, quiet, variant, (uint32_t)lines);
+    else
+        begin(&reader, variant, place == 1 ? quiet : 0, (uint32_t)lines);
+    for (size_t i = 0; i < lines; i++) {
+        uint8_t record[4], answer[2] = { 0xA5, 0xA5 };
+        memcpy(record, line[i].record, 4);
+        if (place != 0 && record[0] <= SECOND_RECEIVE && record[1] == quiet_address)
+            continue;
+        if (place == 2 && (record[0] == 5 || record[0] == 6))
+            record[0] = (uint8_t)(record[0] + 3);
+        second_feed_result fed = second_feed(&reader, record, 4, answer, 2);
+        expect(name, i + 1, &line[i], fed.code, answer[0], answer[1]);
+    }
+}
+
+static void run_script(const char *name, uint8_t variant, const script_line *line, size_t lines)
+{
+    run_alone(name, variant, line, lines);
+    for (uint8_t place = 0; place <= 2; place++)
+        run_beside(name, variant, place, line, lines);
+}
+
+/* A script for both devices, in the reader from its header on; one if second is 0. */
+static void run_bus(const char *name, uint8_t first, uint8_t second,
+                    const script_line *line, size_t lines)
+{
+    second_reader reader;
+    begin(&reader, first, second, (uint32_t)lines);
+    for (size_t i = 0; i < lines; i++) {
+        uint8_t answer[2] = { 0xA5, 0xA5 };
+        check(second_finish(&reader) == 6, name, (int)i);
+        second_feed_result fed = second_feed(&reader, line[i].record, 4, answer, 2);
+        expect(name, i + 1, &line[i], fed.code, answer[0], answer[1]);
+    }
+    check(second_finish(&reader) == 0, name, (int)lines);
+}
+#define BUS(name, first, second, ...)                                          \
+    do {                                                                       \
+        static const script_line lines_[] = { __VA_ARGS__ };                   \
+        run_bus(name, first, second, lines_, sizeof lines_ / sizeof *lines_);  \
+    } while (0)
 #define SCRIPT(name, variant, ...)                                          \
     do {                                                                    \
         static const script_line lines_[] = { __VA_ARGS__ };                \
@@ -56,6 +128,13 @@ static void run_script(const char *name, uint8_t variant, const script_line *lin
 /* At 4D, which the device at 4C does not answer. */
 #define RD_OTHER(r) { { 2, 0x4D, r, 0 }, 0, 0 }
 #define RB_OTHER { { 4, 0x4D, 0, 0 }, 0, 0 }
+/* Request c: at 4D where a device is, and conversions of the second device. */
+#define WR_D(r, v, f) { { 1, 0x4D, r, v }, f, 0 }
+#define RD_D(r, f, s) { { 2, 0x4D, r, 0 }, f, s }
+#define SB_D(r, f) { { 3, 0x4D, r, 0 }, f, 0 }
+#define RB_D(f, s) { { 4, 0x4D, 0, 0 }, f, s }
+#define CV2(l, h, lo, f) { { 8, l, h, lo }, f, 0 }
+#define CO2(l, f) { { 9, l, 0, 0 }, f, 0 }
 
 static void scripts(void)
 {
@@ -558,25 +637,32 @@ static void every_sum(void)
 }
 
 /* Every sample in rising order with one offset, as one capture: the last ones are held
- * if the offset is above 0, the first ones if it is below, as many as the offset says. */
-static void samples_in_capture(int offset)
+ * if the offset is above 0, the first ones if it is below, as many as the offset says.
+ * Kind 05 of one device, or kind 08 of the second of two. */
+static void samples_in_capture(int offset, bool of_second)
 {
     enum { SETUP = 3, SAMPLES = 2048 };
-    static uint8_t capture[6 + 4 * (SETUP + SAMPLES)];
+    static uint8_t capture[7 + 4 * (SETUP + SAMPLES)];
     static uint8_t answers[2 * (SETUP + SAMPLES)];
-    const uint8_t setup[4 * SETUP] = { 1, 0x4C, 9, 0x94, 1, 0x4C, 0x11, high_of(offset),
-                                       1, 0x4C, 0x12, low_of(offset) };
+    uint8_t at = of_second ? 0x4D : 0x4C;
+    size_t header = of_second ? 7 : 6;
+    const uint8_t setup[4 * SETUP] = { 1, at, 9, 0x94, 1, at, 0x11, high_of(offset),
+                                       1, at, 0x12, low_of(offset) };
     int differ = 0;
-    CHECK(second_write_header(1, SETUP + SAMPLES, capture, 6) == 0);
-    memcpy(capture + 6, setup, sizeof setup);
+    if (of_second)
+        CHECK(second_write_header_2(1, 2, SETUP + SAMPLES, capture, 7) == 0);
+    else
+        CHECK(second_write_header(1, SETUP + SAMPLES, capture, 6) == 0);
+    memcpy(capture + header, setup, sizeof setup);
     for (int i = 0; i < SAMPLES; i++) {
-        uint8_t *record = capture + 6 + 4 * (SETUP + i);
-        record[0] = 5;
+        uint8_t *record = capture + header + 4 * (SETUP + i);
+        record[0] = of_second ? 8 : 5;
         record[1] = 0;
         record[2] = high_of(i - 1024);
         record[3] = low_of(i - 1024);
     }
-    CHECK(second_run(capture, sizeof capture, answers, sizeof answers) == 16 * sizeof answers);
+    CHECK(second_run(capture, header + 4 * (SETUP + SAMPLES), answers, sizeof answers) ==
+          16 * sizeof answers);
     for (int i = 0; i < SAMPLES; i++) {
         bool held = offset > 0 ? i >= SAMPLES - offset : i < -offset;
         const uint8_t *answer = answers + 2 * (SETUP + i);
@@ -610,22 +696,26 @@ static void some_offsets(void)
         -255, -129, -128, -85, -9, -8, -7, -2, -1, 0, 1, 2, 7, 8, 9, 31, 32, 85, 127, 128, 255,
         256, 257, 511, 512, 513, 1000, 1015, 1016, 1017, 1022, 1023 };
     for (size_t i = 0; i < sizeof offsets / sizeof *offsets; i++) {
-        samples_in_capture(offsets[i]);
+        samples_in_capture(offsets[i], false);
+        samples_in_capture(offsets[i], true);
         samples_in_standby(offsets[i]);
     }
 }
 
 static const uint8_t untouched[8] = { 0xA5, 0xA5, 0xA5, 0xA5, 0xA5, 0xA5, 0xA5, 0xA5 };
 
-/* A record that decoder, step and writer refuse alike, whatever the room. */
+/* A record that decoder, step and writer refuse alike, whatever the room and under
+ * whatever device count. */
 static void refused(const uint8_t record[4], uint8_t code)
 {
     second_event event = { record[0], record[1], record[2], record[3] };
-    second_event decoded;
     second_device device, before;
     uint8_t out[8];
-    CHECK(second_decode(record, &decoded) == code);
-    CHECK((decoded.kind | decoded.a | decoded.b | decoded.c) == 0);
+    for (unsigned devices = 0; devices <= 3; devices++) {
+        second_event decoded = { 1, 1, 1, 1 };
+        CHECK(second_decode((uint8_t)devices, record, &decoded) == code);
+        CHECK((decoded.kind | decoded.a | decoded.b | decoded.c) == 0);
+    }
     memset(&device, 0, sizeof device);
     CHECK(second_step(&device, event).code == 8);
     second_power_on(&device, 1);
@@ -647,8 +737,8 @@ static void records(void)
         { 6, 0, 1, 0 }, { 6, 0, 0, 1 }, { 7, 1, 0, 0 }, { 7, 0, 1, 0 }, { 7, 0, 0, 1 }
     };
     static const uint8_t unknown[][4] = {
-        { 0, 0, 0, 0 }, { 0, 0xFF, 1, 1 }, { 8, 0, 0, 0 }, { 8, 0xFF, 0xFF, 0xFF }, { 9, 0, 0, 0 },
-        { 0x81, 0x4C, 0, 0 }, { 255, 0, 0, 0 }
+        { 0, 0, 0, 0 }, { 0, 0xFF, 1, 1 }, { 10, 0, 0, 0 }, { 10, 0xFF, 0xFF, 0xFF },
+        { 0x81, 0x4C, 0, 0 }, { 0x88, 0, 0, 0 }, { 255, 0, 0, 0 }
     };
     uint8_t out[8];
     for (size_t i = 0; i < sizeof bad / sizeof *bad; i++)
@@ -727,7 +817,8 @@ static void low_byte_feed(const second_device *device, bool in_range, uint8_t he
     reader.header = header;
     reader.count = header == SECOND_HEADER_BYTES ? 1 : 0;
     reader.held = held;
-    reader.device = *device;
+    reader.bus.devices = header > 0 ? 1 : 0;
+    reader.bus.first = *device;
     given = reader;
     CHECK(second_reader_in_range(&reader) == in_range);
     CHECK(second_finish(&reader) == (code != 0 ? code : 6));
@@ -786,30 +877,799 @@ static void low_byte_in_reader(void)
     uint8_t out[8];
     memcpy(out, untouched, sizeof out);
     second_fresh(&reader);
-    CHECK(!reader.device.lowkept && reader.device.low == 0);
+    const second_device *device = &reader.bus.first;
+    CHECK(!device->lowkept && device->low == 0);
     second_feed_result fed = second_feed(&reader, capture, 14, out, 3);
-    CHECK(fed.code == 7 && fed.consumed == 13 && fed.written == 2 && !reader.device.lowkept);
+    CHECK(fed.code == 7 && fed.consumed == 13 && fed.written == 2 && !device->lowkept);
     fed = second_feed(&reader, capture + 13, 1, out, 2);
     CHECK(fed.code == 0 && memcmp(out, "\x04\x01", 2) == 0);
-    CHECK(reader.device.lowkept && reader.device.low == 0x20);
+    CHECK(device->lowkept && device->low == 0x20);
     fed = second_feed(&reader, capture + 14, 8, out, 3);
     CHECK(fed.code == 7 && fed.consumed == 7 && memcmp(out, "\x08\x00", 2) == 0);
-    CHECK(reader.device.lowkept && reader.device.low == 0x20 && reader.device.remote == 18);
+    CHECK(device->lowkept && device->low == 0x20 && device->remote == 18);
     fed = second_feed(&reader, (const uint8_t *)"\x01", 1, out, 8); /* 10 with c = 1 */
     CHECK(fed.code == 4 && fed.consumed == 0 && reader.held == 4);
-    CHECK(reader.device.lowkept && reader.device.low == 0x20);
+    CHECK(device->lowkept && device->low == 0x20);
     reader.held = 0;
     fed = second_feed(&reader, capture + 21, 5, out, 4);
     CHECK(fed.code == 0 && fed.consumed == 5 && memcmp(out, "\x04\x20\x04\x40", 4) == 0);
-    CHECK(!reader.device.lowkept && reader.device.low == 0 && second_finish(&reader) == 0);
+    CHECK(!device->lowkept && device->low == 0 && second_finish(&reader) == 0);
 
     second_fresh(&reader);
-    reader.device.lowkept = true;
-    reader.device.low = 0x20;
+    reader.bus.first.lowkept = true;
+    reader.bus.first.low = 0x20;
     fed = second_feed(&reader, capture, 1, NULL, 0);
-    CHECK(fed.code == 0 && reader.device.lowkept && reader.device.low == 0x20);
+    CHECK(fed.code == 0 && device->lowkept && device->low == 0x20);
     fed = second_feed(&reader, capture + 1, 1, NULL, 0);
-    CHECK(fed.code == 0 && !reader.device.lowkept && reader.device.low == 0);
+    CHECK(fed.code == 0 && !device->lowkept && device->low == 0);
+}
+
+/* Request c: two devices.  Variants by place and address, conversions by place. */
+static void bus_places(void)
+{
+    BUS("c, 4C then 4D", 1, 2, RD(0xFF, 4, 0x31), RD_D(0xFF, 4, 0x34), RD(0x20, 4, 85),
+        RD_D(0x20, 4, 85), RD(4, 4, 8), RD_D(4, 4, 8), RD(5, 4, 70), RD_D(5, 4, 70),
+        RD(7, 4, 70), RD_D(7, 4, 70), RD(0x19, 4, 110), RD_D(0x19, 4, 110), RD(0x21, 4, 10),
+        RD_D(0x21, 4, 10), RD(0xFE, 4, 1), RD_D(0xFE, 4, 1), RD(3, 4, 0), RD_D(3, 4, 0));
+    BUS("c, 4C then 4D with 105", 1, 3, RD(0xFF, 4, 0x31), RD_D(0xFF, 4, 0x35),
+        RD(0x20, 4, 85), RD_D(0x20, 4, 105));
+    BUS("c, 4D then 4C", 2, 1, RD(0xFF, 4, 0x31), RD_D(0xFF, 4, 0x34), RD(0x20, 4, 85),
+        RD_D(0x20, 4, 85));
+    BUS("c, 4D with 105 then 4C", 3, 1, RD(0xFF, 4, 0x31), RD_D(0xFF, 4, 0x35),
+        RD(0x20, 4, 85), RD_D(0x20, 4, 105));
+    BUS("c, 05 is the first's, 08 the second's", 1, 2, CV(5, 1, 0x20, 8), RD_D(0, 4, 0),
+        RD_D(1, 4, 0), CV2(6, 2, 0x40, 8), RD(0, 4, 5), RD_D(0, 4, 6), RD(1, 4, 1),
+        RD_D(1, 4, 2), RD(0x10, 4, 0x20), RD_D(0x10, 4, 0x40));
+    BUS("c, 05 is the first's at 4D too", 2, 1, CV(5, 1, 0x20, 8), RD(0, 4, 0), RD(1, 4, 0),
+        CV2(6, 2, 0x40, 8), RD(0, 4, 6), RD_D(0, 4, 5), RD(1, 4, 2), RD_D(1, 4, 1),
+        RD(0x10, 4, 0x40), RD_D(0x10, 4, 0x20));
+    BUS("c, 06 is the first's, 09 the second's", 1, 2, CO(7, 0x0B), RD_D(2, 7, 0),
+        RD_D(0, 7, 0), RD(0, 7, 7), RD(2, 6, 0x16), CO2(8, 0x0B), RD(2, 7, 0), RD(0, 7, 7),
+        RD_D(0, 7, 8), RD_D(1, 7, 0x7F), RD_D(0x10, 7, 0), RD_D(2, 6, 0x16), RD(1, 6, 0x7F));
+    BUS("c, 06 is the first's at 4D too", 3, 1, CO(7, 0x0B), RD(2, 7, 0), RD_D(2, 6, 0x16),
+        CO2(8, 0x0B), RD_D(2, 7, 0), RD(2, 6, 0x16), RD(0, 6, 8), RD_D(0, 6, 7));
+    BUS("c, limits by variant", 1, 3, WR(0x0B, 127, 4), WR_D(0x0B, 127, 4), CV(85, 0, 0, 8),
+        CV2(105, 0, 0, 8), CV(86, 0, 0, 0x0B), PO, WR_D(0x0B, 127, 4), CV2(105, 0, 0, 8),
+        CV2(106, 0, 0, 0x0B));
+}
+
+/* The answer pins are the joined lines, whoever the record is for. */
+static void bus_lines(void)
+{
+    BUS("c, ALERT of either", 1, 2, CV(71, 0, 0, 9), CV2(0, 0, 0, 9), RD_D(3, 5, 0),
+        SB_D(0, 5), RB_D(5, 0), WR_D(0x0A, 8, 5), RD_D(0x30, 1, 0), RD(2, 4, 0x40),
+        CV2(71, 0, 0, 9), CV(0, 0, 0, 9), RD(3, 5, 0x80), SB(0, 5), RB(5, 0), WR(0x0A, 8, 5),
+        RD(0x30, 1, 0), RD_D(2, 4, 0x40), CV(0, 0, 0, 8));
+    BUS("c, ALERT of both, released one by one", 1, 2, CV(71, 0, 0, 9), CV2(71, 0, 0, 9),
+        RD(2, 5, 0x40), RD_D(2, 4, 0x40), WR(9, 0, 4), WR_D(9, 0, 4), CV2(71, 0, 0, 9),
+        CV(71, 0, 0, 9), RD_D(2, 5, 0x40), RD(2, 4, 0x40));
+    BUS("c, ALERT masks", 2, 1, CV(71, 0, 0, 9), CV2(71, 0, 0, 9), WR(9, 0x80, 5),
+        WR_D(9, 0x80, 4), WR(9, 0, 5), WR(9, 0x80, 4), WR_D(9, 0, 5));
+    BUS("c, T_CRIT_A of either", 1, 2, WR(0x0B, 127, 4), WR_D(0x0B, 127, 4),
+        CV(86, 0, 0, 0x0B), CV2(0, 0, 0, 0x0B), RD(2, 6, 1), RD_D(2, 6, 0), CV2(86, 0, 0, 0x0B),
+        RD_D(2, 6, 1), CV(75, 0, 0, 0x0A), CV(74, 0, 0, 0x0A), CV2(75, 0, 0, 0x0A),
+        CV2(74, 0, 0, 8), RD(3, 4, 0x80));
+    BUS("c, T_CRIT_A masks", 1, 2, WR(9, 0x80, 4), WR_D(9, 0x80, 4), CV(86, 0, 0, 0x0A),
+        WR_D(9, 0x94, 6), WR(9, 0x84, 4), CV2(0, 111, 0, 8), WR_D(9, 0x84, 6), WR(9, 0x80, 6),
+        WR_D(9, 0x90, 6), WR(9, 0x84, 4));
+    BUS("c, ALERT of one and T_CRIT_A of the other", 1, 2, CV2(71, 0, 0, 9), WR(9, 0x80, 5),
+        CV(86, 0, 0, 0x0B), RD_D(2, 6, 0x40), CV(0, 0, 0, 8), CV2(0, 0, 0, 8));
+    BUS("c, comparator beside status", 1, 2, WR_D(0xBF, 1, 4), CV2(71, 0, 0, 9),
+        CV(0, 0, 0, 9), CV2(0, 0, 0, 8), CV(71, 0, 0, 9), CV(0, 0, 0, 9), CV2(71, 0, 0, 9),
+        RD(2, 5, 0x40), CV2(0, 0, 0, 8));
+    BUS("c, untaken and unacknowledged show the lines", 1, 2, CV(71, 0, 0, 9), WR_D(9, 0x40, 5),
+        CV2(71, 0, 0, 1), CO2(0, 1), RD_D(0x30, 1, 0), RD_D(9, 1, 0), WR_D(0, 0, 1), SB_D(0x15, 1),
+        { { 2, 0x4E, 0, 0 }, 1, 0 }, { { 4, 0x4B, 0, 0 }, 1, 0 });
+}
+
+/* The lowest address of those alerting answers, the other keeps pulling. */
+static void bus_alert_response(void)
+{
+    BUS("c, none alerting", 1, 2, ARA(0, 0), CV(0, 0, 0, 8), CV2(0, 0, 0, 8), ARA(0, 0),
+        RD(3, 4, 0), RD_D(3, 4, 0));
+    BUS("c, both alerting, 4C first", 1, 2, CV(71, 0, 0, 9), CV2(71, 0, 0, 9), ARA(5, 0x99),
+        RD(3, 5, 0x80), RD_D(3, 5, 0), ARA(4, 0x9B), RD_D(3, 4, 0x80), ARA(0, 0),
+        RD(2, 4, 0x40), RD_D(2, 4, 0x40));
+    BUS("c, both alerting, 4C last, and last to alert", 2, 1, CV(71, 0, 0, 9),
+        CV2(71, 0, 0, 9), ARA(5, 0x99), RD(3, 5, 0x80), RD_D(3, 5, 0), ARA(4, 0x9B), ARA(0, 0));
+    BUS("c, both alerting, 4C last, and first to alert", 3, 1, CV2(71, 0, 0, 9),
+        CV(71, 0, 0, 9), ARA(5, 0x99), ARA(4, 0x9B), ARA(0, 0));
+    BUS("c, both alerting, 4C first, and last to alert", 1, 3, CV2(71, 0, 0, 9),
+        CV(71, 0, 0, 9), ARA(5, 0x99), ARA(4, 0x9B), ARA(0, 0));
+    BUS("c, 4D alone alerting", 1, 2, CV2(71, 0, 0, 9), ARA(4, 0x9B), ARA(0, 0), RD(3, 4, 0),
+        RD_D(3, 4, 0x80));
+    BUS("c, 4D alone alerting, as the first", 2, 1, CV(71, 0, 0, 9), ARA(4, 0x9B), ARA(0, 0),
+        RD(3, 4, 0), RD_D(3, 4, 0x80));
+    BUS("c, 4C alone alerting", 1, 2, CV(71, 0, 0, 9), ARA(4, 0x99), ARA(0, 0), RD_D(3, 4, 0),
+        RD(3, 4, 0x80));
+    BUS("c, 4C alone alerting, as the second", 3, 1, CV2(71, 0, 0, 9), ARA(4, 0x99), ARA(0, 0),
+        RD_D(3, 4, 0), RD(3, 4, 0x80));
+    BUS("c, each time the lowest", 1, 2, CV(71, 0, 0, 9), CV2(71, 0, 0, 9), ARA(5, 0x99),
+        WR(9, 0, 5), ARA(5, 0x99), WR(9, 0, 5), ARA(5, 0x99), ARA(4, 0x9B), WR(9, 0, 5),
+        WR_D(9, 0, 5), ARA(5, 0x99), WR_D(9, 0, 5), ARA(4, 0x9B), ARA(0, 0));
+    BUS("c, T_CRIT_A stays over alert responses", 1, 2, CV(86, 0, 0, 0x0B), CV2(86, 0, 0, 0x0B),
+        ARA(7, 0x99), ARA(6, 0x9B), ARA(2, 0), CV(0, 0, 0, 0x0A), ARA(2, 0), CV2(0, 0, 0, 8));
+    BUS("c, other kinds at 0C", 1, 2, CV(71, 0, 0, 9), CV2(71, 0, 0, 9),
+        { { 1, 0x0C, 9, 0x80 }, 1, 0 }, { { 2, 0x0C, 2, 0 }, 1, 0 }, { { 3, 0x0C, 2, 0 }, 1, 0 },
+        RD(3, 5, 0), RD_D(3, 5, 0), ARA(5, 0x99));
+}
+
+/* Who may answer is P9's: ALERT pulled, and not in comparator mode. */
+static void bus_alert_response_modes(void)
+{
+    BUS("c, 4C pulls as comparator", 1, 2, WR(0xBF, 1, 4), CV(71, 0, 0, 9), ARA(1, 0),
+        CV2(71, 0, 0, 9), ARA(5, 0x9B), RD(3, 5, 0), RD_D(3, 5, 0x80), ARA(1, 0),
+        CV(0, 0, 0, 8), ARA(0, 0));
+    BUS("c, 4C pulls as comparator, as the second", 2, 1, WR(0xBF, 1, 4), CV2(71, 0, 0, 9),
+        CV(71, 0, 0, 9), ARA(5, 0x9B), ARA(1, 0), RD(3, 5, 0), RD_D(3, 5, 0x80));
+    BUS("c, 4D pulls as comparator", 1, 2, WR_D(0xBF, 1, 4), CV2(71, 0, 0, 9), ARA(1, 0),
+        CV(71, 0, 0, 9), ARA(5, 0x99), RD(3, 5, 0x80), RD_D(3, 5, 0), ARA(1, 0),
+        WR_D(0xBF, 0, 5), ARA(4, 0x9B));
+    BUS("c, 4D pulls as comparator, as the first", 3, 1, WR_D(0xBF, 1, 4), CV(71, 0, 0, 9),
+        CV2(71, 0, 0, 9), ARA(5, 0x99), ARA(1, 0), RD_D(3, 5, 0), RD(3, 5, 0x80));
+    BUS("c, both comparators", 1, 2, WR(0xBF, 1, 4), WR_D(0xBF, 1, 4), CV(71, 0, 0, 9),
+        CV2(71, 0, 0, 9), ARA(1, 0), RD(3, 5, 0), RD_D(3, 5, 0), CV(0, 0, 0, 9), ARA(1, 0),
+        CV2(0, 0, 0, 8));
+    BUS("c, comparator with other filter bits", 1, 2, WR(0xBF, 6, 4), WR_D(0xBF, 7, 4),
+        CV(71, 0, 0, 9), CV2(71, 0, 0, 9), ARA(5, 0x99), ARA(1, 0), WR_D(0xBF, 6, 5),
+        ARA(4, 0x9B));
+    BUS("c, 4C masked", 1, 2, WR(9, 0x80, 4), CV(71, 0, 0, 8), ARA(0, 0), CV2(71, 0, 0, 9),
+        ARA(4, 0x9B), ARA(0, 0), WR(9, 0, 5), ARA(4, 0x99));
+    BUS("c, 4D masked", 1, 2, WR_D(9, 0x80, 4), CV2(71, 0, 0, 8), CV(71, 0, 0, 9),
+        ARA(4, 0x99), ARA(0, 0), WR_D(9, 0, 5), ARA(4, 0x9B));
+    BUS("c, OPEN alone alerts nobody", 1, 2, WR(0x19, 127, 4), WR(0x0D, 127, 4), CO(0, 8),
+        ARA(0, 0), CV2(71, 0, 0, 9), ARA(4, 0x9B), RD(2, 4, 4), RD(3, 4, 0));
+    BUS("c, pointers and kept bytes through alert responses", 1, 2, CV(71, 1, 0x20, 9),
+        CV2(71, 2, 0x40, 9), RD(1, 5, 1), RD_D(1, 5, 2), CV(71, 3, 0x60, 9), CV2(71, 4, 0x80, 9),
+        SB(2, 5), SB_D(0x10, 5), ARA(5, 0x99), ARA(4, 0x9B), ARA(0, 0), RB_D(4, 0x40),
+        RB_D(4, 0x80), RB(4, 0x40), RD(0x10, 4, 0x20), RD_D(2, 4, 0x40));
+}
+
+/* Pointer, kept byte, one-shot, fault count, offset and settings are each device's own. */
+static void bus_own_state(void)
+{
+    BUS("c, own pointers", 1, 2, SB(1, 4), SB_D(0, 4), CV(5, 1, 0x20, 8), CV2(6, 2, 0x40, 8),
+        RB(4, 1), RB_D(4, 6), SB(0x0F, 4), RB(0, 0), RB_D(4, 6), SB_D(9, 4), RB_D(0, 0),
+        RD(0, 4, 5), RB_D(0, 0), RB(4, 5));
+    BUS("c, own kept bytes", 1, 2, CV(0, 1, 0x20, 8), CV2(0, 2, 0x40, 8), RD(1, 4, 1),
+        CV(0, 3, 0x60, 8), CV2(0, 4, 0x80, 8), RD_D(0x10, 4, 0x80), RD_D(1, 4, 4),
+        RD(0x10, 4, 0x20), CV2(0, 5, 0xA0, 8), RD(0x10, 4, 0x60), RD_D(0x10, 4, 0x80),
+        RD_D(0x10, 4, 0xA0));
+    BUS("c, own standby and one-shots", 1, 2, WR_D(9, 0x40, 4), CV(1, 0, 0, 8), CV2(1, 0, 0, 0),
+        WR(0x0F, 0, 4), CV2(1, 0, 0, 0), WR_D(0x0F, 0, 4), CV(2, 0, 0, 8), CV2(3, 0, 0, 8),
+        CV2(4, 0, 0, 0), RD(0, 4, 2), RD_D(0, 4, 3), WR(9, 0x40, 4), WR_D(0x0F, 0, 4),
+        CV(5, 0, 0, 0), CO(5, 0), WR_D(9, 0, 4), WR(0x0F, 0, 4), CO2(6, 0x0B),
+        CV(7, 0, 0, 0x0B), CV(8, 0, 0, 3), RD(0, 7, 7), RD_D(0, 7, 6));
+    BUS("c, leaving standby is each one's own", 1, 2, WR(9, 0x40, 4), WR_D(9, 0x40, 4),
+        WR(0x0F, 0, 4), WR_D(0x0F, 0, 4), WR(9, 0, 4), WR(9, 0x40, 4), CV(1, 0, 0, 0),
+        CV2(1, 0, 0, 8));
+    BUS("c, own fault counts", 1, 2, WR(9, 1, 4), WR_D(9, 1, 4), CV(0, 71, 0, 8),
+        CV(0, 71, 0, 8), CV2(0, 71, 0, 8), CV2(0, 71, 0, 8), CV(0, 0, 0, 8), CV2(0, 71, 0, 9),
+        RD_D(2, 4, 0x10), CV(0, 71, 0, 8), CV(0, 71, 0, 8), CV(0, 71, 0, 9));
+    BUS("c, own offsets and held sums", 1, 2, WR_D(0x11, 0x7F, 4), CV(0, 1, 0, 8),
+        CV2(0, 1, 0, 0x1B), CV(0, 1, 0, 0x0B), RD(1, 7, 1), RD_D(1, 7, 0x7F), RD_D(0x10, 7, 0xE0),
+        CV2(0, 0, 0xE0, 0x0B), WR(0x11, 0x80, 7), CV(0, 0xFF, 0xE0, 0x1B), CV2(0, 0, 0, 0x0B),
+        CO2(0, 0x0B), CO(0, 0x0B), WR_D(9, 0x40, 7), CV2(0, 1, 0, 3), WR_D(0x0F, 0, 7),
+        CV2(0, 1, 0, 0x1B), CV2(0, 1, 0, 3));
+    BUS("c, held sums at 4C as the second", 2, 1, WR(0x11, 0xFF, 4), CV2(0, 0x81, 0, 9),
+        CV2(0, 0x80, 0xE0, 0x19), CV(0, 0x80, 0xE0, 9), CV2(0, 0x80, 0, 0x19));
+    BUS("c, own settings", 1, 2, WR(9, 0x95, 4), WR(0x0A, 1, 4), WR(0x0B, 2, 4), WR(0x0C, 3, 4),
+        WR(0x0D, 4, 4), WR(0x0E, 5, 4), WR(0x11, 6, 4), WR(0x12, 0x20, 4), WR(0x13, 0x40, 4),
+        WR(0x14, 0x60, 4), WR(0x19, 7, 4), WR(0x20, 8, 4), WR(0x21, 9, 4), WR(0xBF, 7, 4),
+        RD_D(3, 4, 0), RD_D(4, 4, 8), RD_D(5, 4, 70), RD_D(6, 4, 0), RD_D(7, 4, 70), RD_D(8, 4, 0),
+        RD_D(0x11, 4, 0), RD_D(0x12, 4, 0), RD_D(0x13, 4, 0), RD_D(0x14, 4, 0),
+        RD_D(0x19, 4, 110), RD_D(0x20, 4, 85), RD_D(0x21, 4, 10), RD_D(0xBF, 4, 0),
+        WR_D(0x20, 99, 4), RD(0x20, 4, 8), RD(3, 4, 0x95), RD(0xBF, 4, 7));
+    BUS("c, own status", 1, 2, CV(71, 0, 0, 9), CV2(0xFF, 0, 0, 9), RD_D(2, 5, 0x20),
+        RD_D(2, 5, 0), RD(2, 4, 0x40), RD(2, 4, 0), RD(3, 4, 0x80), RD_D(3, 4, 0x80));
+}
+
+/* 07 restarts both, each as its variant has it. */
+static void bus_power_on(void)
+{
+    BUS("c, power-on of both", 1, 3, WR(0x20, 3, 4), WR_D(0x20, 4, 4), WR(0x21, 5, 4),
+        WR_D(0x21, 6, 4), CV(9, 1, 0x20, 0x0B), CV2(9, 2, 0x40, 0x0B), PO, RD(0x20, 4, 85),
+        RD_D(0x20, 4, 105), RD(0x21, 4, 10), RD_D(0x21, 4, 10), RD(0, 4, 0), RD_D(0, 4, 0),
+        RD(1, 4, 0), RD_D(1, 4, 0), RD(2, 4, 0), RD_D(2, 4, 0), RD(0xFF, 4, 0x31),
+        RD_D(0xFF, 4, 0x35));
+    BUS("c, power-on of both, 4D first", 3, 1, WR(0x20, 3, 4), WR_D(0x20, 4, 4), PO,
+        RD(0x20, 4, 85), RD_D(0x20, 4, 105), RD(0xFF, 4, 0x31), RD_D(0xFF, 4, 0x35));
+    BUS("c, power-on releases the lines of the second", 1, 2, CO2(86, 0x0B), PO, PO,
+        RD_D(2, 4, 0));
+    BUS("c, power-on releases the lines of the first", 1, 2, CO(86, 0x0B), PO, RD(2, 4, 0));
+    BUS("c, power-on lets go of both low bytes", 1, 2, CV(0, 1, 0x20, 8), CV2(0, 1, 0x40, 8),
+        RD(1, 4, 1), RD_D(1, 4, 1), PO, CV(0, 2, 0x60, 8), CV2(0, 2, 0x80, 8),
+        RD(0x10, 4, 0x60), RD_D(0x10, 4, 0x80));
+    BUS("c, power-on resets both pointers", 1, 2, SB(4, 4), SB_D(5, 4), PO, RB(4, 0),
+        RB_D(4, 0));
+    BUS("c, power-on ends both standbys and one-shots", 1, 2, WR(9, 0x40, 4), WR_D(9, 0x40, 4),
+        WR(0x0F, 0, 4), WR_D(0x0F, 0, 4), PO, CV(1, 0, 0, 8), CV2(1, 0, 0, 8), WR(9, 0x40, 4),
+        WR_D(9, 0x40, 4), CV(2, 0, 0, 0), CV2(2, 0, 0, 0));
+}
+
+/* Addresses of neither, and of a second device that is not there: a variant of 0 has the
+ * address 00 in the table of parts. */
+static void bus_other_addresses(void)
+{
+    BUS("c, addresses of neither", 1, 2, { { 1, 0, 0x0A, 3 }, 0, 0 }, { { 2, 0, 0, 0 }, 0, 0 },
+        { { 3, 0, 1, 0 }, 0, 0 }, { { 4, 0, 0, 0 }, 0, 0 }, { { 2, 0x4B, 4, 0 }, 0, 0 },
+        { { 2, 0x4E, 4, 0 }, 0, 0 }, { { 1, 0x4E, 0x0A, 3 }, 0, 0 }, { { 4, 0x7F, 0, 0 }, 0, 0 },
+        { { 1, 0x7F, 0x0A, 3 }, 0, 0 }, RD(4, 4, 8), RD_D(4, 4, 8));
+    BUS("c, the absent second", 1, 0, { { 1, 0, 0x0A, 3 }, 0, 0 }, { { 2, 0, 0, 0 }, 0, 0 },
+        { { 2, 0, 0xFF, 0 }, 0, 0 }, { { 3, 0, 1, 0 }, 0, 0 }, { { 4, 0, 0, 0 }, 0, 0 },
+        RD_D(4, 0, 0), WR_D(0x0A, 3, 0), SB_D(1, 0), RB_D(0, 0), ARA(0, 0), CV(71, 0, 0, 9),
+        { { 4, 0, 0, 0 }, 1, 0 }, ARA(4, 0x99), ARA(0, 0), PO, { { 2, 0, 0, 0 }, 0, 0 });
+    BUS("c, the absent second beside 4D", 3, 0, { { 2, 0, 0, 0 }, 0, 0 }, RD(4, 0, 0),
+        CV(71, 0, 0, 9), ARA(4, 0x9B), ARA(0, 0), { { 4, 0, 0, 0 }, 0, 0 }, PO,
+        { { 1, 0, 0x0A, 3 }, 0, 0 });
+}
+
+static bool same_device(const second_device *one, const second_device *two)
+{
+    return one->variant == two->variant && one->pointer == two->pointer &&
+           one->pending == two->pending && one->status == two->status &&
+           one->local == two->local && one->remote == two->remote && one->live == two->live &&
+           one->faults == two->faults && one->local_latch == two->local_latch &&
+           one->remote_latch == two->remote_latch && one->low == two->low &&
+           one->lowkept == two->lowkept &&
+           memcmp(one->settings, two->settings, sizeof one->settings) == 0;
+}
+
+static bool same_reader(const second_reader *one, const second_reader *two)
+{
+    return one->header == two->header && one->count == two->count && one->done == two->done &&
+           one->carried == two->carried && memcmp(one->carry, two->carry, 3) == 0 &&
+           one->held == two->held && one->bus.devices == two->bus.devices &&
+           same_device(&one->bus.first, &two->bus.first) &&
+           same_device(&one->bus.second, &two->bus.second);
+}
+
+/* From both devices with everything set, each record changes the one it names alone. */
+static void bus_leaves_other(void)
+{
+    static const struct {
+        uint8_t record[4];
+        bool first, second; /* may it change? */
+    } line[] = {
+        { { 1, 0x4C, 0x0A, 3 }, true, false }, { { 1, 0x4D, 0x0A, 3 }, false, true },
+        { { 2, 0x4C, 2, 0 }, true, false }, { { 2, 0x4D, 2, 0 }, false, true },
+        { { 2, 0x4C, 1, 0 }, true, false }, { { 2, 0x4D, 1, 0 }, false, true },
+        { { 3, 0x4C, 5, 0 }, true, false }, { { 3, 0x4D, 5, 0 }, false, true },
+        { { 4, 0x4C, 0, 0 }, true, false }, { { 4, 0x4D, 0, 0 }, false, true },
+        { { 5, 9, 9, 0x20 }, true, false }, { { 8, 9, 9, 0x20 }, false, true },
+        { { 6, 9, 0, 0 }, true, false }, { { 9, 9, 0, 0 }, false, true },
+        { { 4, 0x0C, 0, 0 }, true, false }, { { 7, 0, 0, 0 }, true, true },
+        { { 2, 0x4E, 2, 0 }, false, false }, { { 1, 0x30, 9, 0 }, false, false },
+        { { 2, 0x4C, 0x30, 0 }, false, false }, { { 2, 0x4D, 0x30, 0 }, false, false }
+    };
+    static const uint8_t set_up[] = { 5, 86, 1, 0x20, 8, 86, 2, 0x40, 2, 0x4C, 1, 0, 2, 0x4D, 1, 0,
+        5, 87, 111, 0x60, 8, 88, 112, 0x80, 1, 0x4C, 0x11, 1, 1, 0x4D, 0x11, 2,
+        3, 0x4C, 0x10, 0, 3, 0x4D, 0x10, 0 };
+    uint8_t out[sizeof set_up / 2];
+    second_reader start;
+    begin(&start, 1, 2, 100);
+    CHECK(second_feed(&start, set_up, sizeof set_up, out, sizeof out).code == 0);
+    for (size_t i = 0; i < sizeof line / sizeof *line; i++) {
+        second_reader reader = start;
+        CHECK(second_feed(&reader, line[i].record, 4, out, 2).code == 0);
+        check(same_device(&reader.bus.first, &start.bus.first) != line[i].first,
+              "first changed by record", (int)i + 1);
+        check(same_device(&reader.bus.second, &start.bus.second) != line[i].second,
+              "second changed by record", (int)i + 1);
+    }
+}
+
+/* A header whose byte behind the consumed ones is refused: this code, the state as after
+ * those, and the code held from then on; in one piece and byte by byte. */
+static void header_refused(const uint8_t *header, size_t good, uint8_t code)
+{
+    second_reader reader, before, bytewise;
+    uint8_t out[8];
+    memcpy(out, untouched, sizeof out);
+    second_fresh(&before);
+    for (size_t i = 0; i < good; i++)
+        CHECK(second_feed(&before, header + i, 1, NULL, 0).code == 0);
+    CHECK(before.header == good && before.held == 0 && second_finish(&before) == 6);
+    bytewise = before;
+    second_feed_result fed = second_feed(&bytewise, header + good, 1, NULL, 0);
+    CHECK(fed.code == code && fed.consumed == 0 && fed.written == 0);
+    second_fresh(&reader);
+    fed = second_feed(&reader, header, good + 1, out, sizeof out);
+    CHECK(fed.code == code && fed.consumed == good && fed.written == 0);
+    before.held = code;
+    CHECK(same_reader(&reader, &before) && same_reader(&bytewise, &before));
+    CHECK(second_finish(&reader) == code && second_reader_in_range(&reader));
+    CHECK(second_feed(&reader, NULL, 0, NULL, 0).code == code);
+    fed = second_feed(&reader, (const uint8_t *)"\x01\x01\x01\x01\x01", 5, out, sizeof out);
+    CHECK(fed.code == code && fed.consumed == 0 && fed.written == 0);
+    CHECK(same_reader(&reader, &before) && memcmp(out, untouched, sizeof out) == 0);
+    CHECK(second_run(header, good + 1, out, sizeof out) == code);
+}
+
+/* A header's beginning that is taken: unfinished, whole and byte by byte. */
+static void header_taken(const uint8_t *header, size_t length)
+{
+    second_reader reader, bytewise;
+    second_fresh(&reader);
+    second_fresh(&bytewise);
+    second_feed_result fed = second_feed(&reader, header, length, NULL, 0);
+    CHECK(fed.code == 0 && fed.consumed == length && fed.written == 0);
+    for (size_t i = 0; i < length; i++)
+        CHECK(second_feed(&bytewise, header + i, 1, NULL, 0).code == 0);
+    CHECK(same_reader(&reader, &bytewise) && second_reader_in_range(&reader));
+    CHECK(reader.header == length && reader.bus.devices == header[0] && reader.held == 0);
+    CHECK(second_finish(&reader) == 6 && second_run(header, length, NULL, 0) == 6);
+}
+
+/* Every device count, and every variant of the first device under both. */
+static void header_counts(void)
+{
+    for (unsigned devices = 0; devices <= 255; devices++) {
+        const uint8_t header[] = { (uint8_t)devices };
+        if (devices == 1 || devices == 2)
+            header_taken(header, 1);
+        else
+            header_refused(header, 0, 1);
+    }
+    for (unsigned devices = 1; devices <= 2; devices++)
+        for (unsigned variant = 0; variant <= 255; variant++) {
+            const uint8_t header[] = { (uint8_t)devices, (uint8_t)variant };
+            if (variant >= 1 && variant <= 3)
+                header_taken(header, 2);
+            else
+                header_refused(header, 1, 2);
+        }
+}
+
+/* Every second variant behind every first one: 2, then 9.  Behind it four bytes of record
+ * count, and no more. */
+static void header_variants(void)
+{
+    static const second_device none;
+    for (uint8_t first = 1; first <= 3; first++)
+        for (unsigned second = 0; second <= 255; second++) {
+            const uint8_t header[] = { 2, first, (uint8_t)second, 0, 0, 0, 0, 7 };
+            if (second < 1 || second > 3)
+                header_refused(header, 2, 2);
+            else if ((first == 1) == (second == 1))
+                header_refused(header, 2, 9);
+            else {
+                for (size_t length = 3; length <= 6; length++)
+                    header_taken(header, length);
+                CHECK(second_run(header, 7, NULL, 0) == 0);
+                CHECK(second_run(header, 8, NULL, 0) == 5);
+            }
+        }
+    for (uint8_t variant = 1; variant <= 3; variant++) {
+        const uint8_t header[] = { 1, variant, 0, 0, 0, 0, 7 };
+        CHECK(second_run(header, 5, NULL, 0) == 6 && second_run(header, 6, NULL, 0) == 0);
+        CHECK(second_run(header, 7, NULL, 0) == 5);
+    }
+
+    second_reader reader;
+    second_device device;
+    second_fresh(&reader);
+    CHECK(second_feed(&reader, (const uint8_t *)"\x02\x03", 2, NULL, 0).code == 0);
+    second_power_on(&device, 3);
+    CHECK(same_device(&reader.bus.first, &device) && same_device(&reader.bus.second, &none));
+    CHECK(second_feed(&reader, (const uint8_t *)"\x01\x12\x34\x56\x78", 5, NULL, 0).code == 0);
+    CHECK(reader.count == 0x12345678 && same_device(&reader.bus.first, &device));
+    second_power_on(&device, 1);
+    CHECK(same_device(&reader.bus.second, &device) && reader.bus.devices == 2);
+    begin(&reader, 2, 0, 0x87654321);
+    CHECK(reader.bus.devices == 1 && reader.count == 0x87654321);
+    CHECK(same_device(&reader.bus.second, &none));
+}
+
+/* The writer of two variants, 2 before 9 before 7, in every room; and what it writes is
+ * read back. */
+static void header_writers(void)
+{
+    for (unsigned first = 0; first <= 255; first++)
+        for (unsigned second = 0; second <= 255; second++) {
+            bool known = first >= 1 && first <= 3 && second >= 1 && second <= 3;
+            bool one_address = (first == 1) == (second == 1);
+            for (size_t room = 0; room <= 8; room++) {
+                uint8_t out[8], want = 0;
+                if (!known)
+                    want = 2;
+                else if (one_address)
+                    want = 9;
+                else if (room < 7)
+                    want = 7;
+                memcpy(out, untouched, sizeof out);
+                uint8_t code = second_write_header_2((uint8_t)first, (uint8_t)second, 0x01020304,
+                                                     out, room);
+                CHECK(code == want);
+                if (want != 0)
+                    CHECK(memcmp(out, untouched, sizeof out) == 0);
+                else
+                    CHECK(out[0] == 2 && out[1] == first && out[2] == second &&
+                          memcmp(out + 3, "\x01\x02\x03\x04\xA5", 5) == 0);
+            }
+        }
+    CHECK(second_write_header_2(0, 1, 0, NULL, 0) == 2 && second_write_header_2(1, 1, 0, NULL, 0) == 9);
+    CHECK(second_write_header_2(2, 3, 0, NULL, 0) == 9 && second_write_header_2(1, 2, 0, NULL, 0) == 7);
+}
+
+/* Every kind under every device count: 08 and 09 are read back under 2 alone. */
+static void kinds_by_count(void)
+{
+    for (unsigned devices = 0; devices <= 255; devices++)
+        for (unsigned kind = 0; kind <= 255; kind++) {
+            const uint8_t record[4] = { (uint8_t)kind, 0, 0, 0 };
+            bool known = kind >= 1 && kind <= (devices == 2 ? 9 : 7);
+            second_event event = { 1, 2, 3, 4 };
+            CHECK(second_decode((uint8_t)devices, record, &event) == (known ? 0 : 3));
+            CHECK(event.kind == (known ? kind : 0) && (event.a | event.b | event.c) == 0);
+        }
+    for (unsigned kind = 0; kind <= 255; kind++) {
+        uint8_t out[5] = { 0xA5, 0xA5, 0xA5, 0xA5, 0xA5 };
+        bool known = kind >= 1 && kind <= 9;
+        second_event event = { (uint8_t)kind, 0, 0, 0 };
+        CHECK(second_write_event(event, out, 3) == (known ? 7 : 3));
+        CHECK(second_write_event(event, out, 5) == (known ? 0 : 3));
+        CHECK(out[0] == (known ? kind : 0xA5) && out[3] == (known ? 0 : 0xA5) && out[4] == 0xA5);
+    }
+}
+
+/* 08 and 09 have the operands of 05 and 06: decoder and writer over all b and c.  Under a
+ * count of 1 they are 3, whatever their operands. */
+static void operands_of_second(void)
+{
+    static const uint8_t locals[] = { 0, 1, 0x4C, 0x7F, 0x80, 0xFF };
+    for (size_t i = 0; i < sizeof locals; i++)
+        for (unsigned b = 0; b <= 255; b++)
+            for (unsigned c = 0; c <= 255; c++) {
+                for (unsigned kind = 8; kind <= 9; kind++) {
+                    const uint8_t record[4] = { (uint8_t)kind, locals[i], (uint8_t)b, (uint8_t)c };
+                    bool good = kind == 8 ? c % 32 == 0 : b == 0 && c == 0;
+                    second_event event = { record[0], record[1], record[2], record[3] };
+                    second_event decoded;
+                    uint8_t out[4] = { 0xA5, 0xA5, 0xA5, 0xA5 };
+                    CHECK(second_decode(1, record, &decoded) == 3);
+                    CHECK(second_decode(2, record, &decoded) == (good ? 0 : 4));
+                    CHECK(decoded.kind == (good ? kind : 0) && decoded.a == (good ? locals[i] : 0));
+                    CHECK(decoded.b == (good ? b : 0) && decoded.c == (good ? c : 0));
+                    CHECK(second_write_event(event, out, 3) == (good ? 7 : 4) && out[0] == 0xA5);
+                    CHECK(second_write_event(event, out, 4) == (good ? 0 : 4));
+                    CHECK(memcmp(out, good ? record : untouched, 4) == 0);
+                }
+            }
+}
+
+/* The step of one device: 8, then 3 for 08 and 09, then 4. */
+static void second_kinds_in_step(void)
+{
+    static const uint8_t operands[][3] = {
+        { 0, 0, 0 }, { 9, 9, 0x20 }, { 0, 0, 1 }, { 0, 1, 0 }, { 0xFF, 0xFF, 0xFF }
+    };
+    for (uint8_t kind = 8; kind <= 9; kind++)
+        for (size_t i = 0; i < sizeof operands / sizeof *operands; i++)
+            for (uint8_t variant = 0; variant <= 4; variant++) {
+                second_event event = { kind, operands[i][0], operands[i][1], operands[i][2] };
+                second_device device, before;
+                second_power_on(&device, variant);
+                device.variant = variant;
+                before = device;
+                second_step_result step = second_step(&device, event);
+                CHECK(step.code == (variant >= 1 && variant <= 3 ? 3 : 8));
+                CHECK(step.first == 0 && step.second == 0 && same_device(&device, &before));
+                device.faults = 4;
+                CHECK(second_step(&device, event).code == 8);
+            }
+}
+
+/* One record on a bus: its code with this room, in one piece and byte by byte. */
+static void record_code(uint8_t second, const uint8_t record[4], size_t room, uint8_t code)
+{
+    uint8_t out[4];
+    second_reader reader, bytewise, before;
+    begin(&reader, 1, second, 1);
+    before = bytewise = reader;
+    memcpy(out, untouched, sizeof out);
+    second_feed_result fed = second_feed(&reader, record, 4, out, room);
+    CHECK(fed.code == code && fed.consumed == (code == 0 ? 4 : 3));
+    CHECK(fed.written == (code == 0 ? 2 : 0));
+    CHECK(memcmp(out + fed.written, untouched, sizeof out - fed.written) == 0);
+    for (size_t i = 0; i < 3; i++)
+        CHECK(second_feed(&bytewise, record + i, 1, NULL, 0).code == 0);
+    CHECK(second_feed(&bytewise, record + 3, 1, out, room).code == code);
+    CHECK(same_reader(&reader, &bytewise));
+    CHECK(reader.held == (code == 3 || code == 4 ? code : 0));
+    CHECK(second_finish(&reader) == (code == 7 ? 6 : code));
+    if (code != 0) {
+        memcpy(before.carry, record, 3);
+        before.carried = 3;
+        before.held = reader.held;
+        CHECK(same_reader(&reader, &before));
+    }
+}
+
+/* In the reader 08 and 09 are 3 where the count is 1; where it is 2, 4 before 7. */
+static void second_kinds_in_reader(void)
+{
+    static const struct {
+        uint8_t record[4], alone, of_two; /* codes with room for the answer */
+    } line[] = {
+        { { 8, 0, 0, 0 }, 3, 0 }, { { 8, 0xFF, 0xFF, 0xE0 }, 3, 0 }, { { 8, 0, 0, 1 }, 3, 4 },
+        { { 8, 0, 0, 0x1F }, 3, 4 }, { { 8, 0, 0, 0x10 }, 3, 4 }, { { 9, 0, 0, 0 }, 3, 0 },
+        { { 9, 0xFF, 0, 0 }, 3, 0 }, { { 9, 0, 1, 0 }, 3, 4 }, { { 9, 0, 0, 1 }, 3, 4 },
+        { { 9, 0, 0, 0x20 }, 3, 4 }, { { 10, 0, 0, 0 }, 3, 3 }, { { 10, 0, 0, 1 }, 3, 3 },
+        { { 0, 0, 0, 0 }, 3, 3 }, { { 0xFF, 0, 0, 0 }, 3, 3 }, { { 5, 0, 0, 0 }, 0, 0 },
+        { { 5, 0, 0, 1 }, 4, 4 }, { { 6, 0, 0, 0 }, 0, 0 }, { { 6, 0, 1, 0 }, 4, 4 },
+        { { 7, 0, 0, 0 }, 0, 0 }, { { 7, 1, 0, 0 }, 4, 4 }, { { 1, 0x80, 0, 0 }, 4, 4 },
+        { { 2, 0x4D, 0, 0 }, 0, 0 }, { { 2, 0x4D, 0, 1 }, 4, 4 }, { { 4, 0x0C, 0, 0 }, 0, 0 },
+        { { 4, 0x0C, 1, 0 }, 4, 4 }
+    };
+    for (size_t i = 0; i < sizeof line / sizeof *line; i++)
+        for (size_t room = 0; room <= 3; room++) {
+            uint8_t alone = line[i].alone, of_two = line[i].of_two;
+            record_code(0, line[i].record, room, alone == 0 && room < 2 ? 7 : alone);
+            record_code(2, line[i].record, room, of_two == 0 && room < 2 ? 7 : of_two);
+        }
+}
+
+/* 8 or not from a reader, with nothing changed on 8; 8 before a held code. */
+static void range(const second_reader *given, bool in_range, const char *name, int number)
+{
+    uint8_t out[8];
+    second_reader reader = *given;
+    uint8_t finish = second_finish(&reader);
+    memcpy(out, untouched, sizeof out);
+    check(second_reader_in_range(&reader) == in_range, name, number);
+    check((finish == 8) == !in_range, name, number);
+    second_feed_result fed = second_feed(&reader, NULL, 0, NULL, 0);
+    check(fed.code == (in_range ? given->held : 8), name, number);
+    check(same_reader(&reader, given), name, number);
+    fed = second_feed(&reader, (const uint8_t *)"\x02\x01\x02\0\0\0\x01\x07", 8, out, 8);
+    check((fed.code == 8) == !in_range, name, number);
+    if (!in_range || given->held != 0) {
+        check(fed.consumed == 0 && fed.written == 0, name, number);
+        check(same_reader(&reader, given), name, number);
+        check(memcmp(out, untouched, sizeof out) == 0, name, number);
+    } else {
+        check(second_reader_in_range(&reader), name, number);
+    }
+}
+
+static bool is_stage(unsigned devices, unsigned header)
+{
+    if (header == 0)
+        return devices == 0;
+    return (devices == 1 && header <= 6) || (devices == 2 && header <= 7);
+}
+
+static bool has_second(unsigned devices, unsigned header)
+{
+    return devices == 2 && header >= 3;
+}
+
+/* A reader with these bytes taken, as far as there are such. */
+static void at_stage(second_reader *reader, unsigned devices, unsigned header)
+{
+    second_fresh(reader);
+    reader->header = (uint8_t)header;
+    reader->bus.devices = (uint8_t)devices;
+    if (header >= 2)
+        second_power_on(&reader->bus.first, 1);
+    if (has_second(devices, header))
+        second_power_on(&reader->bus.second, 2);
+}
+
+/* Every device count with every number of header bytes and every held code. */
+static void bus_stages(void)
+{
+    for (unsigned devices = 0; devices <= 255; devices++)
+        for (unsigned header = 0; header <= 255; header++) {
+            second_reader reader;
+            at_stage(&reader, devices, header);
+            range(&reader, is_stage(devices, header), "stage with header bytes", (int)header);
+            if (!is_stage(devices, header))
+                continue;
+            for (unsigned held = 0; held <= 255; held++) {
+                reader.held = (uint8_t)held;
+                range(&reader, held <= 5 || held == 9, "held code", (int)held);
+            }
+        }
+}
+
+/* The record count below 256 to the power of its bytes taken; records done and bytes carried
+ * only with the header complete. */
+static void stage_counts(void)
+{
+    static const uint32_t above[] = { 1, 0x100, 0x10000, 0x1000000 };
+    for (unsigned devices = 0; devices <= 2; devices++)
+        for (unsigned header = 0; header <= 7; header++) {
+            second_reader reader;
+            if (!is_stage(devices, header))
+                continue;
+            unsigned before = devices == 2 ? 3 : 2;
+            unsigned taken = header > before ? header - before : 0;
+            at_stage(&reader, devices, header);
+            for (size_t i = 0; i < 4; i++) {
+                reader.count = above[i] - 1;
+                range(&reader, taken >= i, "count below a power, header bytes", (int)header);
+                reader.count = above[i];
+                range(&reader, taken > i, "count of a power, header bytes", (int)header);
+            }
+            reader.count = 0xFFFFFFFF;
+            range(&reader, taken == 4, "greatest count, header bytes", (int)header);
+            reader.count = taken > 0 ? 1 : 0;
+            reader.done = 1;
+            range(&reader, taken == 4, "one done, header bytes", (int)header);
+            reader.done = 2;
+            range(&reader, false, "two done of one, header bytes", (int)header);
+            reader.done = 0;
+            for (uint8_t carried = 1; carried <= 4; carried++) {
+                reader.carried = carried;
+                range(&reader, taken == 4 && carried < 4, "carried, header bytes", (int)header);
+            }
+            reader.carried = 2;
+            reader.carry[2] = 1;
+            range(&reader, false, "unused place, header bytes", (int)header);
+        }
+}
+
+/* Variants at every stage: the first's free below two header bytes, the second's of another
+ * address from three on, and 0 until or without that. */
+static void stage_variants(void)
+{
+    for (unsigned devices = 0; devices <= 2; devices++)
+        for (unsigned header = 0; header <= 7; header++)
+            for (unsigned first = 0; is_stage(devices, header) && first <= 256; first++) {
+                second_reader reader;
+                bool known = first >= 1 && first <= 3;
+                at_stage(&reader, devices, header);
+                reader.bus.first.variant = (uint8_t)first;
+                if (!has_second(devices, header)) {
+                    range(&reader, header < 2 || known, "first variant", (int)first);
+                    reader.bus.second.variant = (uint8_t)(first % 4);
+                    if (first % 4 != 0)
+                        range(&reader, false, "variant of no second", (int)first);
+                    continue;
+                }
+                for (unsigned second = 0; second <= 255; second += second < 5 ? 1 : 50) {
+                    bool both = known && second >= 1 && second <= 3;
+                    reader.bus.second.variant = (uint8_t)second;
+                    range(&reader, both && (first == 1) != (second == 1), "variants",
+                          (int)(1000 * first + second));
+                }
+            }
+}
+
+/* A variant byte replaces its device, whatever stood there, and leaves the other.  The first
+ * one is not compared with what stood there: 9 is for the second alone. */
+static void variant_bytes(void)
+{
+    static const second_device none;
+    for (uint8_t variant = 1; variant <= 3; variant++) {
+        second_reader reader;
+        second_device device, stood;
+        second_power_on(&device, variant);
+        for (unsigned before = 0; before <= 255; before++)
+            for (unsigned devices = 1; devices <= 2; devices++) {
+                at_stage(&reader, devices, 1);
+                reader.bus.first.variant = (uint8_t)before;
+                reader.bus.first.status = 0x40;
+                reader.bus.first.lowkept = true;
+                CHECK(second_feed(&reader, &variant, 1, NULL, 0).code == 0 && reader.header == 2);
+                CHECK(same_device(&reader.bus.first, &device));
+                CHECK(same_device(&reader.bus.second, &none));
+            }
+        at_stage(&reader, 2, 2);
+        reader.bus.first.variant = variant == 1 ? 3 : 1;
+        reader.bus.first.status = 0x40;
+        stood = reader.bus.first;
+        CHECK(second_feed(&reader, &variant, 1, NULL, 0).code == 0 && reader.header == 3);
+        CHECK(same_device(&reader.bus.first, &stood));
+        CHECK(same_device(&reader.bus.second, &device));
+    }
+}
+
+enum field {
+    POINTER, PENDING, STATUS, LOCAL, REMOTE, LIVE, FAULTS, LOCAL_LATCH, REMOTE_LATCH, LOW,
+    LOWKEPT, SETTING
+};
+
+static void set_field(second_device *device, int field, int value)
+{
+    switch (field) {
+    case POINTER: device->pointer = (uint8_t)value; break;
+    case PENDING: device->pending = value != 0; break;
+    case STATUS: device->status = (uint8_t)value; break;
+    case LOCAL: device->local = (uint8_t)value; break;
+    case REMOTE: device->remote = (int16_t)value; break;
+    case LIVE: device->live = (uint8_t)value; break;
+    case FAULTS: device->faults = (uint8_t)value; break;
+    case LOCAL_LATCH: device->local_latch = value != 0; break;
+    case REMOTE_LATCH: device->remote_latch = value != 0; break;
+    case LOW: device->low = (uint8_t)value; break;
+    case LOWKEPT: device->lowkept = value != 0; break;
+    default: device->settings[field - SETTING] = (uint8_t)value; break;
+    }
+}
+
+/* One field of either device to a value that is not 0: in range or not where the device is
+ * (the first from the fresh state on), and never in a second that is not there. */
+static void field_range(int field, int value, bool good)
+{
+    for (unsigned devices = 0; devices <= 2; devices++)
+        for (unsigned header = 0; header <= 7; header++) {
+            second_reader reader;
+            if (!is_stage(devices, header))
+                continue;
+            at_stage(&reader, devices, header);
+            set_field(&reader.bus.first, field, value);
+            range(&reader, good, "field of the first", field);
+            at_stage(&reader, devices, header);
+            set_field(&reader.bus.second, field, value);
+            range(&reader, good && has_second(devices, header), "field of the second", field);
+        }
+}
+
+static void device_ranges(void)
+{
+    static const struct {
+        int field, value;
+        bool good;
+    } line[] = {
+        { POINTER, 0x08, true }, { POINTER, 0x09, true }, { POINTER, 0x0F, true },
+        { POINTER, 0x10, true }, { POINTER, 0x14, true }, { POINTER, 0x15, false },
+        { POINTER, 0x18, false }, { POINTER, 0x19, true }, { POINTER, 0x1A, false },
+        { POINTER, 0x22, false }, { POINTER, 0xBE, false }, { POINTER, 0xBF, true },
+        { POINTER, 0xFD, false }, { POINTER, 0xFE, true }, { POINTER, 0xFF, true },
+        { STATUS, 1, true }, { STATUS, 0x7F, true }, { STATUS, 0x80, false }, { LIVE, 1, true },
+        { LIVE, 0x7F, true }, { LIVE, 0x80, false }, { LOCAL, 1, true }, { LOCAL, 0xFF, true },
+        { REMOTE, 1, true }, { REMOTE, -1, true }, { REMOTE, 1023, true }, { REMOTE, 1024, false },
+        { REMOTE, -1024, true }, { REMOTE, -1025, false }, { REMOTE, 32767, false },
+        { REMOTE, -32768, false }, { REMOTE, 0x100, true }, { FAULTS, 1, true },
+        { FAULTS, 3, true }, { FAULTS, 4, false }, { LOCAL_LATCH, 1, true },
+        { REMOTE_LATCH, 1, true }, { PENDING, 1, false }, { LOW, 0x20, false }, { LOW, 1, false },
+        { LOWKEPT, 1, true }
+    };
+    static const uint8_t masks[SECOND_SETTINGS] = { 0xD5, 0xFF, 0xFF, 0xFF, 0xFF, 0xFF, 0xFF,
+        0xE0, 0xE0, 0xE0, 0xFF, 0xFF, 0x1F, 0x07 };
+    for (size_t i = 0; i < sizeof line / sizeof *line; i++)
+        field_range(line[i].field, line[i].value, line[i].good);
+    for (int i = 0; i < SECOND_SETTINGS; i++)
+        for (int bit = 0x01; bit <= 0x80; bit *= 2)
+            field_range(SETTING + i, bit, (masks[i] & bit) != 0);
+
+    second_reader reader; /* pending in standby, and a kept byte, of the second */
+    at_stage(&reader, 2, 7);
+    reader.bus.second.pending = true;
+    reader.bus.second.settings[0] = 0x40;
+    reader.bus.second.lowkept = true;
+    reader.bus.second.low = 0xE0;
+    range(&reader, true, "second in standby", 0);
+    reader.bus.second.low = 0xE1;
+    range(&reader, false, "kept byte of the second", 0xE1);
+    reader.bus.second.low = 0;
+    reader.bus.second.settings[0] = 0;
+    reader.bus.first.settings[0] = 0x40;
+    range(&reader, false, "second pending, first in standby", 0);
+}
+
+/* Two devices in a capture's bytes, and their listing: 01's, at 4C as the second. */
+static void bus_listing(void)
+{
+    static const uint8_t capture[] = { 2, 2, 1, 0, 0, 0, 9, 1, 0x4C, 0x19, 0x55, 1, 0x4C, 0x0D, 0x7F,
+        8, 0x19, 0x55, 0x20, 2, 0x4C, 2, 0, 1, 0x4C, 0x21, 5, 8, 0x19, 0x50, 0,
+        8, 0x19, 0x4F, 0xE0, 2, 0x4C, 3, 0, 1, 0x4C, 0x30, 0 };
+    static const char want[] = "1 04 00\n2 04 00\n3 0B 00\n4 06 02\n5 06 00\n6 0A 00\n7 08 00\n"
+                               "8 04 80\n9 00 00\nend 9 0\n";
+    uint8_t out[18];
+    char text[sizeof want + SECOND_LINE_MOST];
+    size_t length = 0;
+    CHECK(second_run(capture, sizeof capture, out, sizeof out) == 16 * sizeof out);
+    for (uint32_t i = 0; i < 9; i++)
+        length += second_listing_record(text + length, sizeof text - length, i + 1,
+                                        out[2 * i], out[2 * i + 1]);
+    length += second_listing_end(text + length, sizeof text - length, 9, 0);
+    CHECK(length == sizeof want - 1 && memcmp(text, want, length) == 0);
+    length = second_listing_end(text, sizeof text, 0, 9); /* a refusal with 9 */
+    CHECK(length == 8 && memcmp(text, "end 0 9\n", 8) == 0);
 }
 
 /* Random captures, right and wrong: in one piece, and in parts with little
@@ -822,14 +1682,17 @@ static uint32_t next(uint32_t below)
     return (seed >> 8) % below;
 }
 
-enum { RECORDS = 12, MOST = 6 + 4 * RECORDS + 2 };
+enum { RECORDS = 12, MOST = 7 + 4 * RECORDS + 2 };
 
-static second_event any_event(void)
+/* Of any kind under this device count. */
+static second_event any_event(uint8_t devices)
 {
     static const uint8_t registers[] = { 0, 1, 1, 1, 2, 2, 2, 3, 9, 9, 9, 0x0B, 0x0C, 0x0D, 0x0E,
         0x0F, 0x0F, 0x10, 0x10, 0x10, 0x11, 0x12, 0x13, 0x14, 0x19, 0x20, 0x21, 0xBF, 0xBF, 0xFE,
         0xFF, 0x30 };
-    second_event event = { (uint8_t)(1 + next(7)), 0, 0, 0 };
+    second_event event = { (uint8_t)(1 + next(devices == 2 ? 9 : 7)), 0, 0, 0 };
+    bool sample = event.kind == SECOND_CONVERSION || event.kind == SECOND_CONVERSION_2;
+    bool open = event.kind == SECOND_CONVERSION_OPEN || event.kind == SECOND_OPEN_2;
     if (event.kind <= SECOND_RECEIVE)
         event.a = (uint8_t)(0x4C + next(2));
     if (event.kind == SECOND_RECEIVE && next(2) == 0)
@@ -838,9 +1701,9 @@ static second_event any_event(void)
         event.b = registers[next(sizeof registers)];
     if (event.kind == SECOND_WRITE)
         event.c = (uint8_t)next(256);
-    if (event.kind == SECOND_CONVERSION || event.kind == SECOND_CONVERSION_OPEN)
+    if (sample || open)
         event.a = (uint8_t)next(256);
-    if (event.kind == SECOND_CONVERSION) {
+    if (sample) {
         event.b = (uint8_t)next(256);
         event.c = (uint8_t)(32 * next(8));
     }
@@ -850,16 +1713,25 @@ static second_event any_event(void)
 static size_t make_capture(uint8_t *capture)
 {
     size_t n = next(RECORDS + 1);
-    second_write_header((uint8_t)(1 + next(3)), (uint32_t)n, capture, MOST);
+    uint8_t devices = (uint8_t)(1 + next(2));
+    size_t header = 5u + devices;
+    uint8_t first = (uint8_t)(1 + next(3));
+    if (devices == 1)
+        second_write_header(first, (uint32_t)n, capture, MOST);
+    else
+        second_write_header_2(first, first == 1 ? (uint8_t)(2 + next(2)) : 1, (uint32_t)n,
+                              capture, MOST);
     for (size_t i = 0; i < n; i++)
-        CHECK(second_write_event(any_event(), capture + 6 + 4 * i, 4) == 0);
-    size_t length = 6 + 4 * n;
+        CHECK(second_write_event(any_event(devices), capture + header + 4 * i, 4) == 0);
+    size_t length = header + 4 * n;
     if (next(3) == 0) /* too short, too long, or a bad byte somewhere */
         length = next((uint32_t)length + 1);
     else if (next(3) == 0)
         capture[length++] = 7;
     else if (next(2) == 0)
         capture[next((uint32_t)length)] = (uint8_t)next(256);
+    else if (next(4) == 0) /* among the variant bytes, a small one */
+        capture[next(3)] = (uint8_t)next(5);
     return length;
 }
 
@@ -878,7 +1750,7 @@ static void cuts(void)
             size_t at = 0, written = 0;
             uint8_t code = 0;
             second_fresh(&parts);
-            while (at < length && (code == 0 || code == 7)) {
+            for (int calls = 0; at < length && (code == 0 || code == 7) && calls < 1000; calls++) {
                 size_t room = next(6);
                 size_t left = sizeof joined - written;
                 if (room > left)
@@ -907,7 +1779,7 @@ static void pairs(void)
     int stood = 0; /* the reading at that read of 01 */
     second_power_on(&device, 1);
     for (int round = 0; round < 200000; round++) {
-        second_event event = any_event();
+        second_event event = any_event(1);
         if (event.kind == SECOND_POWER_ON && next(8) != 0)
             continue; /* rarer, so that pairs come about */
         int reading = device.remote + 2048; /* above 0, so that / and % are the bytes */
@@ -941,7 +1813,7 @@ static void held_over_events(void)
     int degrees = 0, fine = 0, seen = 0; /* the offset is degrees and fine eighths */
     second_power_on(&device, 1);
     for (int round = 0; round < 200000; round++) {
-        second_event event = any_event();
+        second_event event = any_event(1);
         if (event.kind == SECOND_POWER_ON && next(8) != 0)
             continue; /* rarer, so that offsets stand */
         if (event.kind == SECOND_WRITE && next(2) == 0)
@@ -966,47 +1838,323 @@ static void held_over_events(void)
     CHECK(seen > 1000);
 }
 
+/* Feed these bytes until all are consumed or a code other than 7 comes; a 7 is answered
+ * with room for at least one pair, so that each call but the first takes a record. */
+static uint8_t feed_on(second_reader *reader, const uint8_t *bytes, size_t length, size_t room,
+                       uint8_t *joined, size_t *written, size_t *consumed)
+{
+    size_t at = 0, calls = 0;
+    uint8_t code;
+    do {
+        size_t left = 2 * RECORDS - *written;
+        second_feed_result fed = second_feed(reader, bytes + at, length - at, joined + *written,
+                                             room < left ? room : left);
+        code = fed.code;
+        at += fed.consumed;
+        *written += fed.written;
+        room = code == 7 && room < 2 ? 2 : room;
+        calls++;
+    } while (code == 7 && calls <= RECORDS + 1);
+    *consumed += at;
+    return code;
+}
+
+/* One capture cut at one place, with one room before the cut and one behind, against the
+ * same in one piece. */
+static void cut_at(const uint8_t *capture, size_t length, size_t cut, size_t room, size_t other)
+{
+    uint8_t whole[2 * RECORDS], joined[2 * RECORDS];
+    second_reader one, parts;
+    size_t written = 0, consumed = 0;
+    memset(whole, 0xA5, sizeof whole);
+    memset(joined, 0xA5, sizeof joined);
+    second_fresh(&one);
+    second_fresh(&parts);
+    second_feed_result all = second_feed(&one, capture, length, whole, sizeof whole);
+    uint8_t code = feed_on(&parts, capture, cut, room, joined, &written, &consumed);
+    if (code == 0)
+        code = feed_on(&parts, capture + cut, length - cut, other, joined, &written, &consumed);
+    CHECK(code == all.code && consumed == all.consumed && written == all.written);
+    CHECK(memcmp(joined, whole, sizeof whole) == 0 && same_reader(&one, &parts));
+    CHECK(second_finish(&one) == second_finish(&parts));
+}
+
+/* Captures of two devices and of one, right and wrong, cut at every place with every small
+ * room. */
+static void every_cut_and_room(void)
+{
+    static const uint8_t right[] = { 2, 2, 1, 0, 0, 0, 9, 5, 71, 1, 0x20, 8, 71, 2, 0x40,
+        4, 0x0C, 0, 0, 2, 0x4C, 1, 0, 8, 0, 3, 0x60, 4, 0x0C, 0, 0, 2, 0x4C, 0x10, 0,
+        9, 86, 0, 0, 7, 0, 0, 0 };
+    static const struct {
+        size_t at; /* the byte of the above that is another; 0: the device count */
+        uint8_t byte;
+    } change[] = {
+        { 0, 2 }, { 0, 1 }, { 0, 3 }, { 0, 0 }, { 1, 0 }, { 1, 1 }, { 1, 3 }, { 1, 4 }, { 2, 0 },
+        { 2, 2 }, { 2, 3 }, { 2, 4 }, { 3, 1 }, { 6, 8 }, { 6, 10 }, { 6, 0 }, { 7, 10 }, { 7, 0 },
+        { 11, 6 }, { 11, 10 }, { 14, 0x41 }, { 15, 0 }, { 35, 8 }, { 37, 1 }, { 38, 0x20 }, { 42, 1 }
+    };
+    for (size_t i = 0; i < sizeof change / sizeof *change; i++) {
+        uint8_t capture[sizeof right];
+        memcpy(capture, right, sizeof right);
+        capture[change[i].at] = change[i].byte;
+        for (size_t cut = 0; cut <= sizeof capture; cut++)
+            for (size_t room = 0; room <= 5; room++)
+                for (size_t other = 0; other <= 5; other++)
+                    cut_at(capture, sizeof capture, cut, room, other);
+    }
+    static const uint8_t alone[] = { 1, 3, 0, 0, 0, 3, 5, 71, 1, 0x20, 4, 0x0C, 0, 0, 8, 0, 0, 0 };
+    for (size_t cut = 0; cut <= sizeof alone; cut++)
+        for (size_t room = 0; room <= 5; room++)
+            cut_at(alone, sizeof alone, cut, room, 5 - room);
+}
+
+/* What a device pulls, by a read at an address that nobody has. */
+static uint8_t pins_of(second_device device)
+{
+    return second_step(&device, (second_event){ 2, 0x7F, 0, 0 }).first;
+}
+
+static bool would_answer_alert(second_device device)
+{
+    return (second_step(&device, (second_event){ 4, 0x0C, 0, 0 }).first & 4) != 0;
+}
+
+/* Does this device see the event?  All but conversions of the other, and alert responses
+ * of which another is named: one that would answer too, at a lower address. */
+static bool sees(const second_device device[2], unsigned devices, unsigned place,
+                 second_event event)
+{
+    if (event.kind == 5 || event.kind == 6)
+        return place == 0;
+    if (event.kind == 8 || event.kind == 9)
+        return place == 1;
+    if (event.kind == 4 && event.a == 0x0C && devices == 2 && device[place].variant != 1)
+        return !would_answer_alert(device[1 - place]);
+    return true;
+}
+
+/* One event on one or two devices by steps of each alone, on what it sees. */
+static void step_each(second_device device[2], unsigned devices, second_event event,
+                      uint8_t answer[2])
+{
+    bool seen[2] = { sees(device, devices, 0, event), sees(device, devices, 1, event) };
+    answer[0] = answer[1] = 0;
+    for (unsigned i = 0; i < devices; i++) {
+        second_event alone = event;
+        if (event.kind >= 8)
+            alone.kind = (uint8_t)(event.kind - 3);
+        if (seen[i]) {
+            second_step_result step = second_step(&device[i], alone);
+            CHECK(step.code == 0);
+            answer[0] |= step.first;
+            answer[1] |= step.second;
+        } else {
+            answer[0] |= pins_of(device[i]);
+        }
+    }
+}
+
+/* How many header bytes of a whole capture are good, and the code of the next or 0. */
+static size_t good_header(const uint8_t *capture, size_t length, uint8_t *code)
+{
+    *code = 0;
+    if (length == 0)
+        return 0;
+    if (capture[0] != 1 && capture[0] != 2)
+        *code = 1;
+    if (*code != 0 || length == 1)
+        return *code != 0 ? 0 : 1;
+    if (capture[1] < 1 || capture[1] > 3)
+        *code = 2;
+    if (*code != 0 || length == 2)
+        return *code != 0 ? 1 : 2;
+    if (capture[0] == 2) {
+        if (capture[2] < 1 || capture[2] > 3)
+            *code = 2;
+        else if ((capture[1] == 1) == (capture[2] == 1))
+            *code = 9;
+        if (*code != 0)
+            return 2;
+    }
+    size_t whole = 5u + capture[0];
+    return length < whole ? length : whole;
+}
+
+/* What a whole capture, with room for every answer, comes to by the definition: its bytes
+ * divided into header and records, the records stepped. */
+typedef struct {
+    uint8_t code, answers[2 * RECORDS];
+    size_t consumed, written;
+    second_reader reader;
+} defined;
+
+static void define_records(defined *want, const uint8_t *bytes, size_t length)
+{
+    second_reader *reader = &want->reader;
+    second_device device[2] = { reader->bus.first, reader->bus.second };
+    size_t at = 0;
+    while (reader->done < reader->count && length - at >= 4 && want->code == 0) {
+        second_event event;
+        want->code = second_decode(reader->bus.devices, bytes + at, &event);
+        if (want->code != 0)
+            break;
+        step_each(device, reader->bus.devices, event, want->answers + want->written);
+        want->written += 2;
+        reader->done++;
+        at += 4;
+    }
+    size_t rest = length - at;
+    if (reader->done == reader->count) {
+        want->code = rest > 0 ? 5 : 0;
+    } else {
+        reader->carried = (uint8_t)(rest < 3 ? rest : 3);
+        memcpy(reader->carry, bytes + at, reader->carried);
+        at += reader->carried;
+    }
+    want->consumed += at;
+    reader->bus.first = device[0];
+    reader->bus.second = device[1];
+}
+
+static void define(defined *want, const uint8_t *capture, size_t length)
+{
+    memset(want, 0, sizeof *want);
+    second_reader *reader = &want->reader;
+    size_t good = good_header(capture, length, &want->code);
+    uint8_t devices = good > 0 ? capture[0] : 0;
+    want->consumed = good;
+    reader->header = (uint8_t)good;
+    reader->bus.devices = devices;
+    if (good >= 2)
+        second_power_on(&reader->bus.first, capture[1]);
+    if (devices == 2 && good >= 3)
+        second_power_on(&reader->bus.second, capture[2]);
+    for (size_t i = 1u + devices; i < good; i++)
+        reader->count = reader->count * 256 + capture[i];
+    if (good > 0 && good == 5u + devices)
+        define_records(want, capture + good, length - good);
+    reader->held = want->code;
+}
+
+/* Random captures of one and two devices, right and wrong, against the definition. */
+static void definition(void)
+{
+    for (int round = 0; round < 100000; round++) {
+        uint8_t capture[MOST], out[2 * RECORDS];
+        second_reader reader;
+        defined want;
+        size_t length = make_capture(capture);
+        define(&want, capture, length);
+        second_fresh(&reader);
+        second_feed_result fed = second_feed(&reader, capture, length, out, sizeof out);
+        CHECK(fed.code == want.code && fed.consumed == want.consumed);
+        CHECK(fed.written == want.written && memcmp(out, want.answers, want.written) == 0);
+        CHECK(same_reader(&reader, &want.reader));
+        const second_reader *end = &want.reader;
+        bool whole = end->header == 5 + end->bus.devices && end->done == end->count;
+        CHECK(second_finish(&reader) == (want.code != 0 ? want.code : whole ? 0 : 6));
+    }
+}
+
+/* A long row of events on two devices: answers and both states are those of each alone, and
+ * what names one leaves the other.  Power-on is rarer, so that states come about. */
+static void bus_as_devices(void)
+{
+    static const uint8_t variants[][2] = { { 1, 2 }, { 1, 3 }, { 2, 1 }, { 3, 1 } };
+    int both_alerting = 0;
+    for (int round = 0; round < 400000; round++) {
+        static second_reader reader;
+        static second_device device[2];
+        if (round % 100000 == 0) {
+            const uint8_t *variant = variants[round / 100000];
+            begin(&reader, variant[0], variant[1], 100000);
+            second_power_on(&device[0], variant[0]);
+            second_power_on(&device[1], variant[1]);
+        }
+        second_event event = any_event(2);
+        if (event.kind == SECOND_POWER_ON && next(8) != 0)
+            event = (second_event){ 1, (uint8_t)(0x4C + next(2)), 9, (uint8_t)(next(2) * next(256)) };
+        uint8_t record[4], got[2], want[2];
+        CHECK(second_write_event(event, record, 4) == 0);
+        bool alert_response = event.kind == 4 && event.a == 0x0C;
+        if (alert_response && would_answer_alert(device[0]) && would_answer_alert(device[1]))
+            both_alerting++;
+        second_bus before = reader.bus;
+        step_each(device, 2, event, want);
+        CHECK(second_feed(&reader, record, 4, got, 2).code == 0);
+        CHECK(got[0] == want[0] && got[1] == want[1]);
+        CHECK(same_device(&reader.bus.first, &device[0]));
+        CHECK(same_device(&reader.bus.second, &device[1]));
+        if (event.kind != SECOND_POWER_ON)
+            CHECK(same_device(&before.first, &device[0]) || same_device(&before.second, &device[1]));
+    }
+    CHECK(both_alerting > 100);
+}
+
+static void any_device(second_device *device)
+{
+    second_power_on(device, (uint8_t)(1 + next(3)));
+    device->variant = (uint8_t)next(5);
+    if (next(2)) {
+        device->pointer = (uint8_t)next(256);
+        device->status = (uint8_t)next(256);
+        device->remote = (int16_t)((int)next(65536) - 32768);
+        device->faults = (uint8_t)next(8);
+        device->pending = next(2) != 0;
+        device->settings[next(14)] = (uint8_t)next(256);
+    }
+    if (next(2)) {
+        device->lowkept = next(2) != 0;
+        device->low = (uint8_t)(next(4) ? 32 * next(8) : next(256));
+    }
+}
+
+static void any_reader(second_reader *reader)
+{
+    memset(reader, 0, sizeof *reader);
+    reader->header = (uint8_t)next(next(4) ? 8 : 256);
+    reader->bus.devices = (uint8_t)next(next(4) ? 3 : 256);
+    if (next(2)) /* often a complete header */
+        reader->header = (uint8_t)(5 + reader->bus.devices);
+    reader->count = next(2) ? next(5) : next(1u << 24) << 8;
+    reader->done = next(3);
+    reader->carried = (uint8_t)next(next(4) ? 4 : 256);
+    for (size_t i = 0; i < 3; i++)
+        reader->carry[i] = i < reader->carried ? (uint8_t)next(11) : 0;
+    reader->held = (uint8_t)(next(2) ? 0 : next(11));
+    any_device(&reader->bus.first);
+    if (reader->bus.devices == 2 ? next(8) != 0 : next(8) == 0)
+        any_device(&reader->bus.second);
+    if (reader->bus.devices == 2 && next(2)) { /* often two addresses */
+        reader->bus.first.variant = (uint8_t)(1 + next(3));
+        reader->bus.second.variant = reader->bus.first.variant == 1 ? 3 : 1;
+    }
+}
+
 /* Any bytes as a state, any bytes as input: an answer, and 8 changes nothing. */
 static void anything(void)
 {
-    for (int round = 0; round < 200000; round++) {
+    int with_two = 0;
+    for (int round = 0; round < 400000; round++) {
         second_reader reader, before;
         uint8_t input[32], answers[16];
-        memset(&reader, 0, sizeof reader);
-        reader.header = (uint8_t)next(next(2) ? 7 : 256);
-        reader.count = next(2) ? next(5) : next(1u << 24) << 8;
-        reader.done = next(3);
-        reader.carried = (uint8_t)next(next(4) ? 4 : 256);
-        for (size_t i = 0; i < 3; i++)
-            reader.carry[i] = i < reader.carried ? (uint8_t)next(9) : 0;
-        reader.held = (uint8_t)(next(2) ? 0 : next(8));
-        second_power_on(&reader.device, (uint8_t)(1 + next(3)));
-        reader.device.variant = (uint8_t)next(5);
-        if (next(2)) {
-            reader.device.pointer = (uint8_t)next(256);
-            reader.device.status = (uint8_t)next(256);
-            reader.device.remote = (int16_t)((int)next(65536) - 32768);
-            reader.device.faults = (uint8_t)next(8);
-            reader.device.pending = next(2) != 0;
-            reader.device.settings[next(14)] = (uint8_t)next(256);
-        }
-        if (next(2)) {
-            reader.device.lowkept = next(2) != 0;
-            reader.device.low = (uint8_t)(next(4) ? 32 * next(8) : next(256));
-        }
+        any_reader(&reader);
         for (size_t i = 0; i < sizeof input; i++)
-            input[i] = (uint8_t)next(next(2) ? 8 : 256);
+            input[i] = (uint8_t)next(next(2) ? 10 : 256);
         before = reader;
         second_feed_result fed = second_feed(&reader, input, next(33), answers, next(17));
-        CHECK(fed.code <= 8 && fed.code != 6 && fed.written <= 16 && fed.consumed <= 32);
-        CHECK(fed.code != 8 || (fed.consumed == 0 && memcmp(&reader, &before, sizeof reader) == 0));
+        CHECK(fed.code <= 9 && fed.code != 6 && fed.written <= 16 && fed.consumed <= 32);
+        CHECK(fed.code != 8 || (fed.consumed == 0 && same_reader(&reader, &before)));
         CHECK(fed.code == 8 || second_reader_in_range(&reader));
         CHECK((fed.code == 8) == (second_finish(&reader) == 8));
-        second_step_result step = second_step(&before.device,
-            (second_event){ (uint8_t)next(9), input[0], input[1], input[2] });
+        with_two += fed.code != 8 && before.bus.devices == 2 && before.header == 7;
+        second_step_result step = second_step(&before.bus.first,
+            (second_event){ (uint8_t)next(11), input[0], input[1], input[2] });
         CHECK(step.code == 0 || step.code == 3 || step.code == 4 || step.code == 8);
-        CHECK(step.code == 8 || second_device_in_range(&before.device));
+        CHECK(step.code == 8 || second_device_in_range(&before.bus.first));
     }
+    CHECK(with_two > 1000);
 }
 
 int main(void)
@@ -1028,7 +2176,31 @@ int main(void)
     refusals();
     low_byte_ranges();
     low_byte_in_reader();
+    bus_places();
+    bus_lines();
+    bus_alert_response();
+    bus_alert_response_modes();
+    bus_own_state();
+    bus_power_on();
+    bus_other_addresses();
+    bus_leaves_other();
+    header_counts();
+    header_variants();
+    header_writers();
+    kinds_by_count();
+    operands_of_second();
+    second_kinds_in_step();
+    second_kinds_in_reader();
+    bus_stages();
+    stage_counts();
+    stage_variants();
+    variant_bytes();
+    device_ranges();
+    bus_listing();
     cuts();
+    every_cut_and_room();
+    definition();
+    bus_as_devices();
     pairs();
     held_over_events();
     anything();
