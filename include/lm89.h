@@ -1,8 +1,9 @@
 /*
- * The LM89 temperature sensor, modelled register for register.
+ * LM89 temperature sensors, one or two on a bus, modelled register for register.
  *
- * lm89_run takes a whole capture; lm89_fresh, lm89_feed and lm89_finish take one in parts; lm89_power_on and lm89_step keep one
- * device in the caller's memory; lm89_write_header and lm89_write_event write a capture. Link liblm89.a.
+ * lm89_run takes a whole capture; lm89_fresh, lm89_feed and lm89_finish take one in parts, and a record a call if need be; lm89_power_on and
+ * lm89_step keep one device in the caller's memory; lm89_write_header, lm89_write_header_2 and lm89_write_event write a capture. Two devices
+ * on one bus stand in a reader, and step by lm89_feed. Link liblm89.a.
  * None of them allocates, keeps anything between calls or touches memory other than what it is lent.
  *
  * What a caller owes, beyond what C asks of every program: slices that are lent to one call do not overlap; a slice whose length is not 0
@@ -26,7 +27,7 @@ extern "C" {
  * The version of this header. Under another major number a struct or an answer is another: before any other call test
  * lm89_version() / LM89_VERSION_UNIT == LM89_VERSION_MAJOR.
  */
-#define LM89_VERSION_MAJOR 3
+#define LM89_VERSION_MAJOR 4
 #define LM89_VERSION_MINOR 0
 #define LM89_VERSION_UNIT 65536u
 
@@ -45,20 +46,36 @@ enum {
     LM89_ADDRESS_ALERT_RESPONSE = 0x0C,
 };
 
-/* A record's first byte, and what its bytes a, b and c are. Addresses are at most 7Fh. */
+/*
+ * A record's first byte, and what its bytes a, b and c are. Addresses are at most 7Fh.
+ *
+ * A capture is of one device, or of two on one bus: the first and the second, in the order of their variants in its header. Two have two
+ * addresses: one is an LM89C, the other an LM89-1C or an LM89-1D. A write, read, send or receive names the device at its address, if there
+ * is one; LM89_KIND_CONVERSION and LM89_KIND_OPEN name the first device, LM89_KIND_CONVERSION_2 and LM89_KIND_OPEN_2 the second. The device
+ * that is not named stays as it was. LM89_KIND_POWER_ON restarts both.
+ *
+ * A receive at LM89_ADDRESS_ALERT_RESPONSE names, of the devices that pull ALERT and have LM89_FILTER_COMPARATOR clear, the one with the
+ * lowest address: the LM89C before the other, whichever is first in the header. That one answers twice its address plus 1 and sets its
+ * LM89_CONFIGURATION_ALERT_MASK, which lets its ALERT go; nothing else of it changes. The other does nothing: if it pulls ALERT it keeps pulling,
+ * and if it has LM89_FILTER_COMPARATOR clear the next such receive names it. Where there is no such device, the receive is not acknowledged and
+ * changes nothing.
+ */
 enum {
-    LM89_KIND_WRITE = 1,      /* address, register, value */
-    LM89_KIND_READ = 2,       /* address, register, 0 */
-    LM89_KIND_SEND = 3,       /* address, register, 0: sets the pointer */
-    LM89_KIND_RECEIVE = 4,    /* address, 0, 0: reads at the pointer, or asks for the alert response */
-    LM89_KIND_CONVERSION = 5, /* local, remote high byte, remote low byte: a multiple of 32 */
-    LM89_KIND_OPEN = 6,       /* local, 0, 0: a conversion with the diode open */
-    LM89_KIND_POWER_ON = 7,   /* 0, 0, 0 */
+    LM89_KIND_WRITE = 1,        /* address, register, value */
+    LM89_KIND_READ = 2,         /* address, register, 0 */
+    LM89_KIND_SEND = 3,         /* address, register, 0: sets the pointer */
+    LM89_KIND_RECEIVE = 4,      /* address, 0, 0: reads at the pointer, or asks for the alert response */
+    LM89_KIND_CONVERSION = 5,   /* local, remote high byte, remote low byte: a multiple of 32; of the first device */
+    LM89_KIND_OPEN = 6,         /* local, 0, 0: a conversion of the first device with its diode open */
+    LM89_KIND_POWER_ON = 7,     /* 0, 0, 0 */
+    LM89_KIND_CONVERSION_2 = 8, /* as LM89_KIND_CONVERSION, of the second device: only in captures of two */
+    LM89_KIND_OPEN_2 = 9,       /* as LM89_KIND_OPEN, of the second device: only in captures of two */
 };
 
-/* Bytes of a capture's header, of a record, and of a record's answer; what lm89_run counts an answer byte as. */
+/* Bytes of a capture's header, of one device and of two, of a record, and of a record's answer; what lm89_run counts an answer byte as. */
 enum {
     LM89_HEADER_BYTES = 6,
+    LM89_HEADER_2_BYTES = 7,
     LM89_RECORD_BYTES = 4,
     LM89_ANSWER_BYTES = 2,
     LM89_RUN_UNIT = 16,
@@ -155,27 +172,31 @@ enum {
 /* Codes. */
 enum {
     LM89_CODE_DONE = 0,         /* none of the others applies */
-    LM89_CODE_DEVICE_COUNT = 1, /* the device count is not 1 */
-    LM89_CODE_VARIANT = 2,      /* the variant is not 1, 2 or 3 */
-    LM89_CODE_KIND = 3,         /* the kind is not 1 to 7 */
+    LM89_CODE_DEVICE_COUNT = 1, /* the device count is not 1 or 2 */
+    LM89_CODE_VARIANT = 2,      /* a variant is not 1, 2 or 3 */
+    LM89_CODE_KIND = 3,         /* the kind is not 1 to 9, or is 8 or 9 where the device count is 1 or in lm89_step */
     LM89_CODE_OPERAND = 4,      /* an operand is outside the table of kinds */
     LM89_CODE_PAST_END = 5,     /* a byte comes after the last counted record */
     LM89_CODE_CUT_SHORT = 6,    /* the capture ends before its counted end */
     LM89_CODE_NO_ROOM = 7,      /* too little room: for a valid record's answer; in a writer, for what it writes */
     LM89_CODE_RANGE = 8,        /* the device or reader handed in is out of its ranges */
+    LM89_CODE_ADDRESS = 9,      /* the two devices have one address */
 };
 
 /*
- * Bits of the first answer byte; the other three are 0. The pins are as they stand after the record.
+ * Bits of the first answer byte; the other three are 0. The pins are as they stand after the record; those of two devices are joined, so that
+ * each is pulled where either device pulls it, whichever the record names. The other bits speak of the device that the record names, and are
+ * 0 where it names none or both.
  *
- * LM89_ANSWER_HELD is set exactly if the record is a taken LM89_KIND_CONVERSION whose remote sample plus the offset in force, LM89_REGISTER_OFFSET
- * with its low byte, is above 1023 eighths of a degree or below -1024. The remote reading is then that end of the scale, 127.875 or -128 degrees, and
- * no temperature; at such a record without the bit it is the sum. A sum of exactly 1023 or -1024 is not held, and LM89_KIND_OPEN never sets the bit. No later
- * record tells it, and no field of a device or reader; `held` of lm89_reader is a code.
+ * LM89_ANSWER_HELD is set exactly if the record is a taken LM89_KIND_CONVERSION or LM89_KIND_CONVERSION_2 whose remote sample plus the offset in
+ * force, LM89_REGISTER_OFFSET with its low byte, is above 1023 eighths of a degree or below -1024; sample and offset are of one device. The remote
+ * reading is then that end of the scale, 127.875 or -128 degrees, and no temperature; at such a record without the bit it is the sum. A sum of
+ * exactly 1023 or -1024 is not held, and an open diode never sets the bit. No later record tells it, and no field of a device or reader; `held` of
+ * lm89_reader is a code.
  */
 enum {
-    LM89_ANSWER_ALERT = 0x01,        /* ALERT is pulled */
-    LM89_ANSWER_TCRIT = 0x02,        /* T_CRIT_A is pulled */
+    LM89_ANSWER_ALERT = 0x01,        /* ALERT is pulled, by either device */
+    LM89_ANSWER_TCRIT = 0x02,        /* T_CRIT_A is pulled, by either device */
     LM89_ANSWER_ACKNOWLEDGED = 0x04, /* the bus event was acknowledged */
     LM89_ANSWER_TAKEN = 0x08,        /* the conversion was taken */
     LM89_ANSWER_HELD = 0x10,         /* the conversion was taken, and its reading was held to the end of the scale */
@@ -209,22 +230,33 @@ typedef struct {
 } lm89_device;
 
 /*
- * A reader of a capture that comes in parts. It is in its ranges when every field is as said beside it. Every reader reached from
- * lm89_fresh by lm89_feed is.
+ * The devices on a bus, as a reader has them. It is in its ranges when every field is as said beside it; header bytes taken are `head` of that
+ * reader.
  */
 typedef struct {
-    uint8_t head;       /* header bytes taken, 0 to 6 */
-    uint32_t count;     /* record count as far as its bytes are taken: below 256 to the power of these, 0 with none */
-    uint32_t done;      /* records done: at most count, and 0 before the header is complete */
-    uint8_t carried;    /* bytes carried of a record: 0 to 3, and 0 before the header is complete or once all records are done */
-    uint8_t bytes[3];   /* these bytes; unused places are 0 */
-    uint8_t held;       /* a lasting code that refused a byte, 1 to 5, or 0 */
-    lm89_device device; /* in its ranges; before two header bytes are taken its variant may be any number */
+    uint8_t devices;    /* device count: 0 with no header byte taken, else 1 or 2 */
+    lm89_device first;  /* in its ranges; before two header bytes are taken its variant may be any number */
+    lm89_device second; /* once three are taken and devices is 2, in its ranges and at another address than first; until or without that, all zeros */
+} lm89_bus;
+
+/*
+ * A reader of a capture that comes in parts. It is in its ranges when every field is as said beside it. The header is complete at
+ * 5 + bus.devices bytes, LM89_HEADER_BYTES or LM89_HEADER_2_BYTES; the last four of them are those of the record count. Every reader reached
+ * from lm89_fresh by lm89_feed is in its ranges.
+ */
+typedef struct {
+    uint8_t head;     /* header bytes taken: 0 to 6; 0 to 7 where bus.devices is 2 */
+    uint32_t count;   /* record count as far as its bytes are taken: below 256 to the power of these, 0 with none */
+    uint32_t done;    /* records done: at most count, and 0 before the header is complete */
+    uint8_t carried;  /* bytes carried of a record: 0 to 3, and 0 before the header is complete or once all records are done */
+    uint8_t bytes[3]; /* these bytes; unused places are 0 */
+    uint8_t held;     /* a lasting code that refused a byte, 1 to 5 or 9, or 0 */
+    lm89_bus bus;     /* in its ranges, with so many header bytes taken */
 } lm89_reader;
 
 /*
- * What feeding a part gives. Where the code is LM89_CODE_NO_ROOM, or one of 1 to 5 that the reader did not hold before, the byte behind the
- * consumed ones is the one judged.
+ * What feeding a part gives. Where the code is LM89_CODE_NO_ROOM, or one of 1 to 5 and 9 that the reader did not hold before, the byte behind
+ * the consumed ones is the one judged.
  */
 typedef struct {
     uint64_t consumed;  /* bytes of the part that were taken */
@@ -244,13 +276,14 @@ typedef struct {
 uint32_t lm89_version(void);
 
 /*
- * Runs a whole capture on a device fresh from power-on. A capture is the device count, which is 1; the variant, LM89_VARIANT_...;
- * the record count in four bytes, highest first; and that many records of four bytes: kind, a, b, c, as LM89_KIND_... says.
+ * Runs a whole capture on devices fresh from power-on. A capture is the device count, 1 or 2; the variant of each device, LM89_VARIANT_..., the
+ * first device's before the second's; the record count in four bytes, highest first; and that many records of four bytes: kind, a, b, c, as
+ * LM89_KIND_... says.
  *
  * Each valid record's answer, LM89_ANSWER_BYTES, goes to the front of answers, behind those before it; every other byte there is untouched.
  * Room for capture_length / 2 bytes is always enough. Returns LM89_RUN_UNIT times the answer bytes written, plus a code: that of the first
- * byte that is not taken, LM89_CODE_DEVICE_COUNT to LM89_CODE_PAST_END (1 to 5) or LM89_CODE_NO_ROOM (7), as lm89_feed tells them; if all
- * are taken LM89_CODE_DONE (0) at the counted end, LM89_CODE_CUT_SHORT (6) before it.
+ * byte that is not taken, LM89_CODE_DEVICE_COUNT to LM89_CODE_PAST_END (1 to 5), LM89_CODE_NO_ROOM (7) or LM89_CODE_ADDRESS (9), as lm89_feed
+ * tells them; if all are taken LM89_CODE_DONE (0) at the counted end, LM89_CODE_CUT_SHORT (6) before it.
  */
 uint64_t lm89_run(const uint8_t *capture, size_t capture_length, uint8_t *answers, size_t answers_length);
 
@@ -261,12 +294,14 @@ lm89_reader lm89_fresh(void);
  * Takes the next part of a capture, of any length and cut anywhere, and as much of it as can be. Each valid record's answer, LM89_ANSWER_BYTES,
  * goes to the front of answers, behind those of this call before it; every other byte there is untouched. The code is
  *   LM89_CODE_RANGE (8) if the reader is out of its ranges; nothing is consumed or written, and the reader comes back as it was given;
- *   then the code that the reader holds, 1 to 5, if it holds one, for the empty part too; nothing is consumed or written;
+ *   then the code that the reader holds, 1 to 5 or 9, if it holds one, for the empty part too; nothing is consumed or written;
  *   else, byte by byte, that of the first byte that is not taken, and LM89_CODE_DONE (0) if all are:
- *     LM89_CODE_DEVICE_COUNT (1) and LM89_CODE_VARIANT (2) as header bytes come,
+ *     LM89_CODE_DEVICE_COUNT (1) at the device count,
+ *     LM89_CODE_VARIANT (2) at a variant, and then, at the second of two, LM89_CODE_ADDRESS (9) where its address is the first's,
  *     LM89_CODE_PAST_END (5) for a byte behind the last counted record,
  *     LM89_CODE_KIND (3), then LM89_CODE_OPERAND (4), then LM89_CODE_NO_ROOM (7) at a record's fourth byte.
- * A byte that is judged 1 to 5 or 7 is not consumed, and what came before it stays consumed. Codes 1 to 5 last: the reader holds them.
+ * LM89_KIND_CONVERSION_2 and LM89_KIND_OPEN_2 get LM89_CODE_KIND where the device count is 1.
+ * A byte that is judged 1 to 5, 7 or 9 is not consumed, and what came before it stays consumed. Codes 1 to 5 and 9 last: the reader holds them.
  * LM89_CODE_NO_ROOM does not: give the unread rest again, with room for LM89_ANSWER_BYTES or more.
  *
  * If every LM89_CODE_NO_ROOM is answered so, then however a capture is cut and whatever room each call has, the answers joined, the bytes
@@ -282,9 +317,9 @@ lm89_fed lm89_feed(lm89_reader reader, const uint8_t *input, size_t length, uint
 uint8_t lm89_finish(lm89_reader reader);
 
 /*
- * One event, given as its record's four bytes, on the device where it stands. The answer's code is
+ * One event, given as its record's four bytes, on the device where it stands, which is alone on its bus. The answer's code is
  *   LM89_CODE_RANGE (8) if the device is out of its ranges or its variant is not 1 to 3 (a device of all zeros too),
- *   then LM89_CODE_KIND (3) if the kind is not 1 to 7,
+ *   then LM89_CODE_KIND (3) if the kind is not 1 to 7: for LM89_KIND_CONVERSION_2 and LM89_KIND_OPEN_2 too, since there is no second device,
  *   then LM89_CODE_OPERAND (4) if an operand is outside the table of kinds,
  *   else LM89_CODE_DONE (0).
  * On a code other than 0 both answer bytes are 0 and the device is not changed.
@@ -295,17 +330,25 @@ lm89_answer lm89_step(lm89_device *device, uint8_t kind, uint8_t a, uint8_t b, u
 lm89_device lm89_power_on(uint8_t variant);
 
 /*
- * Writes a capture's header, LM89_HEADER_BYTES of them, to the front of room: LM89_CODE_VARIANT (2) if the variant is not 1 to 3, then
- * LM89_CODE_NO_ROOM (7) if length is less, else LM89_CODE_DONE (0). On a code other than 0 nothing is written; the bytes behind the header
- * are untouched.
+ * Writes the header of a capture of one device, LM89_HEADER_BYTES of them, to the front of room: LM89_CODE_VARIANT (2) if the variant is not
+ * 1 to 3, then LM89_CODE_NO_ROOM (7) if length is less, else LM89_CODE_DONE (0). On a code other than 0 nothing is written; the bytes behind
+ * the header are untouched.
  */
 uint8_t lm89_write_header(uint8_t variant, uint32_t count, uint8_t *room, size_t length);
 
 /*
- * Writes an event's record, LM89_RECORD_BYTES of them, kind, a, b, c, to the front of room: LM89_CODE_KIND (3) if the kind is not 1 to 7,
+ * Writes the header of a capture of two devices, LM89_HEADER_2_BYTES of them, to the front of room; first and second are their variants.
+ * LM89_CODE_VARIANT (2) if either is not 1 to 3, then LM89_CODE_ADDRESS (9) if both have one address, then LM89_CODE_NO_ROOM (7) if length is
+ * less, else LM89_CODE_DONE (0). On a code other than 0 nothing is written; the bytes behind the header are untouched.
+ */
+uint8_t lm89_write_header_2(uint8_t first, uint8_t second, uint32_t count, uint8_t *room, size_t length);
+
+/*
+ * Writes an event's record, LM89_RECORD_BYTES of them, kind, a, b, c, to the front of room: LM89_CODE_KIND (3) if the kind is not 1 to 9,
  * then LM89_CODE_OPERAND (4) if an operand is outside the table of kinds, then LM89_CODE_NO_ROOM (7) if length is less, else
  * LM89_CODE_DONE (0). On a code other than 0 nothing is written; the bytes behind the record are untouched. What is written is read back
- * as that event, and no other bytes are.
+ * as that event in a capture of two devices, and no other bytes are; so it is in a capture of one, but that LM89_KIND_CONVERSION_2 and
+ * LM89_KIND_OPEN_2, which are written here all the same, get LM89_CODE_KIND there.
  */
 uint8_t lm89_write_event(uint8_t kind, uint8_t a, uint8_t b, uint8_t c, uint8_t *room, size_t length);
 

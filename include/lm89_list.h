@@ -22,7 +22,7 @@ enum {
 typedef struct {
     uint64_t consumed; /* bytes of the capture taken; if it is refused, the next one is the refused one */
     uint32_t done;     /* records done */
-    uint8_t code;      /* LM89_CODE_... of lm89.h: DONE (0); 1 to 5 for a refused capture; CUT_SHORT (6) */
+    uint8_t code;      /* LM89_CODE_... of lm89.h: DONE (0); 1 to 5 or 9 for a refused capture; CUT_SHORT (6) */
     uint8_t failure;   /* LM89_LIST_... */
 } lm89_listed;
 

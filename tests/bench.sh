@@ -1,6 +1,7 @@
 #!/usr/bin/env bash
 # What users run: the C examples and the C tests on the library, the listing of every sample held to the file beside it, each of
-# them in parts too, and a large capture in blocks of several sizes. Exits non-zero at the first failure.
+# them in parts too, and two large captures, of one device and of two, in blocks of several sizes. Exits non-zero at the first
+# failure.
 set -euo pipefail
 cd "$(dirname "$0")/.."
 source scripts/machine.sh
@@ -59,9 +60,9 @@ sample() {
 }
 
 blocks() {
-    python3 tests/blocks.py "$1" build/capture | build/bin/lm89 list >build/listed || stop "the listing of blocks of $1 bytes failed"
-    same build/expected build/listed "blocks of $1 bytes give another listing than the whole capture"
-    printf 'blocks of %s ok\n' "$1"
+    python3 tests/blocks.py "$1" "build/large-$2" | build/bin/lm89 list >build/listed || stop "the listing of blocks of $1 bytes failed"
+    same "build/large-$2.listing" build/listed "blocks of $1 bytes give another listing than the whole capture of $2 device(s)"
+    printf 'blocks of %s, %s device(s) ok\n' "$1" "$2"
 }
 
 # The example of reading in blocks counts what the listing shows.
@@ -69,10 +70,24 @@ streamed() {
     awk '
         $1 != "end" { first = index("0123456789ABCDEF", substr($2, 2)) - 1; alert += first % 2; tcrit += int(first / 2) % 2; held += substr($2, 1, 1) }
         $1 == "end" { printf "%d records, ALERT pulled after %d, T_CRIT_A after %d, readings held at %d, code %d\n", $2, alert, tcrit, held, $3 }
-    ' build/expected >build/counted
-    run build/stream <build/capture >build/listed || stop "examples/stream.c failed on the large capture"
+    ' "build/large-$1.listing" >build/counted
+    run build/stream <"build/large-$1" >build/listed || stop "examples/stream.c failed on the large capture of $1 device(s)"
     same build/counted build/listed "examples/stream.c counts otherwise than the listing"
-    printf 'c: stream ok\n'
+    printf 'c: stream, %s device(s) ok\n' "$1"
+}
+
+# A large capture of so many devices: whole, in parts and in blocks.
+large() {
+    local size
+    python3 tests/large.py "$1" >"build/large-$1"
+    run build/list <"build/large-$1" >"build/large-$1.listing"
+    [ "$(tail -n 1 "build/large-$1.listing")" = "end 20000 0" ] ||
+        stop "the large capture of $1 device(s) ends with '$(tail -n 1 "build/large-$1.listing")'"
+    run build/feed "build/large-$1" || stop "lm89_feed on parts of the large capture of $1 device(s) gives something else than lm89_run, see above"
+    streamed "$1"
+    for size in 1 3 4 7 65536; do
+        blocks "$size" "$1"
+    done
 }
 
 # The example of a pair of reads with a conversion between: 31 E0 is 399 eighths, 32 00 is 400.
@@ -82,6 +97,15 @@ paired() {
     run build/pair >build/listed || stop "examples/pair.c failed, see above"
     same build/counted build/listed "examples/pair.c shows another pair"
     printf 'c: pair ok\n'
+}
+
+# The example of two sensors that both alert: 4C answers before 4D, and each is masked then.
+both_served() {
+    printf '%s\n' 'ALERT is pulled' '4C answers 99, its status is 40; ALERT is pulled' '4D answers 9B, its status is 10; ALERT is let go' \
+        'asked once more: nobody answers' 'both unmasked, after 9 records: ALERT is let go' >build/counted
+    run build/two >build/listed || stop "examples/two.c failed, see above"
+    same build/counted build/listed "examples/two.c serves the two sensors otherwise"
+    printf 'c: two ok\n'
 }
 
 # What the program listing says where input or output fails; it has no exit status.
@@ -105,27 +129,25 @@ other_version
 is_cpp examples/bench.c
 is_cpp examples/stream.c
 is_cpp examples/pair.c
+is_cpp examples/two.c
 printf 'c++: headers ok\n'
 passes layout tests/c/layout.c
 passes run tests/c/run.c
 passes held tests/c/held.c
 passes feed tests/c/feed.c
 passes write tests/c/write.c
+passes both tests/c/both.c
 program list tests/c/list.c
 program stream examples/stream.c
 program pair examples/pair.c
 paired
+program two examples/two.c
+both_served
 for hex in samples/*.hex; do
     sample "$(basename "$hex" .hex)"
 done
-python3 tests/large.py >build/capture
-run build/list <build/capture >build/expected
-[ "$(tail -n 1 build/expected)" = "end 20000 0" ] || stop "the large capture ends with '$(tail -n 1 build/expected)'"
-run build/feed build/capture || stop "lm89_feed on parts of the large capture gives something else than lm89_run, see above"
-streamed
-program_says /dev/full build/capture 'listing: standard output cannot be written: *'
+large 1
+large 2
+program_says /dev/full build/large-1 'listing: standard output cannot be written: *'
 program_says /dev/full /dev/null 'listing: standard output cannot be written: *'
 program_says /dev/null . 'listing: standard input cannot be read: *'
-for size in 1 3 4 7 65536; do
-    blocks "$size"
-done

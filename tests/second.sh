@@ -1,5 +1,5 @@
 #!/usr/bin/env bash
-# The second program: its own tests, under the sanitizers too, and its listings of every sample and of the large capture held
+# The second program: its own tests, under the sanitizers too, and its listings of every sample and of the large captures held
 # to the model's. Needs what tests/bench.sh leaves in build/. Exits non-zero at the first failure.
 set -euo pipefail
 cd "$(dirname "$0")/.."
@@ -18,6 +18,8 @@ for hex in samples/*.hex; do
     python3 tests/hex.py <"$hex" | build/second-listing >build/listed
     cmp "${hex%.hex}.listing" build/listed || stop "$hex has another listing in the second program"
 done
-build/second-listing <build/capture >build/listed
-cmp build/expected build/listed || stop "the large capture has another listing in the second program"
-printf 'second: samples and the large capture agree\n'
+for devices in 1 2; do
+    build/second-listing <"build/large-$devices" >build/listed
+    cmp "build/large-$devices.listing" build/listed || stop "the large capture of $devices device(s) has another listing in the second program"
+done
+printf 'second: samples and the large captures agree\n'

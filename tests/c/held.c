@@ -1,4 +1,7 @@
-/* Request b: every sample with every offset by lm89_step, the other events, and a capture in one piece and byte by byte. */
+/*
+ * Request b: every sample with every offset by lm89_step, the other events, and a capture of one device and one of two, in one piece and byte by
+ * byte.
+ */
 #include <string.h>
 
 #include "check.h"
@@ -111,21 +114,52 @@ static const uint8_t capture[] = {
 
 static const uint8_t expected[] = {0x04, 0x00, 0x0B, 0x00, 0x1B, 0x00, 0x07, 0x00, 0x09, 0x00, 0x19, 0x00};
 
-static void test_capture(void)
+/*
+ * Request c: each sum is of one device's sample and its own offset. The second's is 1: 1016 is held with it, and 1015 is not; then the first's is -1:
+ * -1017 is held with that, and not with the second's. T_CRIT_A ends with the latch of the last device that has one.
+ */
+static const uint8_t capture_of_two[] = {
+    0x02, LM89_VARIANT_LM89C, LM89_VARIANT_LM89_1C, 0x00, 0x00, 0x00, 0x08,
+    LM89_KIND_WRITE, LM89_ADDRESS_LM89_1C, LM89_REGISTER_OFFSET, 0x01,
+    LM89_KIND_CONVERSION, LOCAL, 0x7F, 0x00,
+    LM89_KIND_CONVERSION_2, LOCAL, 0x7F, 0x00,
+    LM89_KIND_CONVERSION_2, LOCAL, 0x7E, 0xE0,
+    LM89_KIND_OPEN_2, LOCAL, 0x00, 0x00,
+    LM89_KIND_WRITE, LM89_ADDRESS_LM89C, LM89_REGISTER_OFFSET, 0xFF,
+    LM89_KIND_CONVERSION_2, LOCAL, 0x80, 0xE0,
+    LM89_KIND_CONVERSION, LOCAL, 0x80, 0xE0,
+};
+
+static const uint8_t expected_of_two[] = {
+    0x04, 0x00, 0x0B, 0x00, 0x1B, 0x00, 0x0B, 0x00, 0x0B, 0x00, 0x07, 0x00, 0x0B, 0x00, 0x19, 0x00,
+};
+
+/* In one piece and byte by byte; gives the reader at the end. */
+static lm89_reader answered(const uint8_t *bytes, size_t length, const uint8_t *wanted, size_t wanted_length)
 {
-    uint8_t answers[sizeof expected];
-    CHECK(lm89_run(capture, sizeof capture, answers, sizeof answers) == LM89_RUN_UNIT * sizeof answers + LM89_CODE_DONE);
-    CHECK(memcmp(answers, expected, sizeof expected) == 0);
+    uint8_t answers[sizeof expected_of_two];
+    CHECK(wanted_length <= sizeof answers);
+    CHECK(lm89_run(bytes, length, answers, wanted_length) == LM89_RUN_UNIT * wanted_length + LM89_CODE_DONE);
+    CHECK(memcmp(answers, wanted, wanted_length) == 0);
     lm89_reader reader = lm89_fresh();
     size_t written = 0;
-    for (size_t i = 0; i < sizeof capture; i++) {
-        lm89_fed fed = lm89_feed(reader, capture + i, 1, answers, LM89_ANSWER_BYTES);
-        CHECK(fed.code == LM89_CODE_DONE && fed.consumed == 1 && written + fed.written <= sizeof expected);
-        CHECK(memcmp(answers, expected + written, fed.written) == 0);
+    for (size_t i = 0; i < length; i++) {
+        lm89_fed fed = lm89_feed(reader, bytes + i, 1, answers, LM89_ANSWER_BYTES);
+        CHECK(fed.code == LM89_CODE_DONE && fed.consumed == 1 && written + fed.written <= wanted_length);
+        CHECK(memcmp(answers, wanted + written, fed.written) == 0);
         written += fed.written;
         reader = fed.reader;
     }
-    CHECK(written == sizeof expected && lm89_finish(reader) == LM89_CODE_DONE && reader.device.sensed.remote == LOWEST);
+    CHECK(written == wanted_length && lm89_finish(reader) == LM89_CODE_DONE);
+    return reader;
+}
+
+static void test_capture(void)
+{
+    lm89_reader reader = answered(capture, sizeof capture, expected, sizeof expected);
+    CHECK(reader.bus.first.sensed.remote == LOWEST);
+    reader = answered(capture_of_two, sizeof capture_of_two, expected_of_two, sizeof expected_of_two);
+    CHECK(reader.bus.first.sensed.remote == LOWEST && reader.bus.second.sensed.remote == -1009);
 }
 
 int main(void)

@@ -28,15 +28,19 @@ _Static_assert(sizeof(lm89_answer) == 3, "size of lm89_answer");
 _Static_assert(offsetof(lm89_answer, code) == 0, "code");
 _Static_assert(offsetof(lm89_answer, first) == 1, "first");
 _Static_assert(offsetof(lm89_answer, second) == 2, "second");
-_Static_assert(sizeof(lm89_reader) == 48, "size of lm89_reader");
+_Static_assert(sizeof(lm89_bus) == 58, "size of lm89_bus");
+_Static_assert(offsetof(lm89_bus, devices) == 0, "devices");
+_Static_assert(offsetof(lm89_bus, first) == 2, "first of lm89_bus");
+_Static_assert(offsetof(lm89_bus, second) == 30, "second of lm89_bus");
+_Static_assert(sizeof(lm89_reader) == 76, "size of lm89_reader");
 _Static_assert(offsetof(lm89_reader, head) == 0, "head");
 _Static_assert(offsetof(lm89_reader, count) == 4, "count");
 _Static_assert(offsetof(lm89_reader, done) == 8, "done");
 _Static_assert(offsetof(lm89_reader, carried) == 12, "carried");
 _Static_assert(offsetof(lm89_reader, bytes) == 13, "bytes");
 _Static_assert(offsetof(lm89_reader, held) == 16, "held");
-_Static_assert(offsetof(lm89_reader, device) == 18, "device");
-_Static_assert(sizeof(lm89_fed) == 72, "size of lm89_fed");
+_Static_assert(offsetof(lm89_reader, bus) == 18, "bus");
+_Static_assert(sizeof(lm89_fed) == 96, "size of lm89_fed");
 _Static_assert(offsetof(lm89_fed, consumed) == 0, "consumed");
 _Static_assert(offsetof(lm89_fed, written) == 8, "written");
 _Static_assert(offsetof(lm89_fed, code) == 16, "code of lm89_fed");
@@ -47,7 +51,7 @@ _Static_assert(offsetof(lm89_listed, done) == 8, "done of lm89_listed");
 _Static_assert(offsetof(lm89_listed, code) == 12, "code of lm89_listed");
 _Static_assert(offsetof(lm89_listed, failure) == 13, "failure");
 
-/* Numbers as document 01 prints them; settings in rising order of the numbers at which they are written. */
+/* Numbers as documents 01 and 02 print them; settings in rising order of the numbers at which they are written. */
 #define NAMES(name, number) _Static_assert((name) == (number), #name)
 
 NAMES(LM89_VERSION_UNIT, 65536);
@@ -66,7 +70,10 @@ NAMES(LM89_KIND_RECEIVE, 4);
 NAMES(LM89_KIND_CONVERSION, 5);
 NAMES(LM89_KIND_OPEN, 6);
 NAMES(LM89_KIND_POWER_ON, 7);
+NAMES(LM89_KIND_CONVERSION_2, 8);
+NAMES(LM89_KIND_OPEN_2, 9);
 NAMES(LM89_HEADER_BYTES, 6);
+NAMES(LM89_HEADER_2_BYTES, 7);
 NAMES(LM89_RECORD_BYTES, 4);
 NAMES(LM89_ANSWER_BYTES, 2);
 
@@ -143,6 +150,7 @@ NAMES(LM89_CODE_PAST_END, 5);
 NAMES(LM89_CODE_CUT_SHORT, 6);
 NAMES(LM89_CODE_NO_ROOM, 7);
 NAMES(LM89_CODE_RANGE, 8);
+NAMES(LM89_CODE_ADDRESS, 9);
 NAMES(LM89_LIST_WHOLE, 0);
 NAMES(LM89_LIST_NOT_READ, 1);
 NAMES(LM89_LIST_NOT_WRITTEN, 2);
@@ -453,6 +461,25 @@ static void test_kinds(void)
     }
 }
 
+/* Request c: a device stepped alone has no second beside it: 3 for 08 and 09 with any operands, those of a good 05 or 06 too. */
+static void test_second_kinds(void)
+{
+    static const uint8_t edges[] = {0x00, 0x01, 0x19, 0x20, 0x7F, 0x80, 0xE0, 0xFF};
+    static const uint8_t variants[] = {LM89_VARIANT_LM89C, LM89_VARIANT_LM89_1C, LM89_VARIANT_LM89_1D};
+    for (size_t v = 0; v < sizeof variants; v++) {
+        lm89_device device = busy();
+        device.variant = variants[v];
+        for (size_t i = 0; i < sizeof edges; i++) {
+            for (size_t j = 0; j < sizeof edges * sizeof edges; j++) {
+                uint8_t b = edges[j / sizeof edges];
+                uint8_t c = edges[j % sizeof edges];
+                CHECK(refused(&device, LM89_CODE_KIND, LM89_KIND_CONVERSION_2, edges[i], b, c));
+                CHECK(refused(&device, LM89_CODE_KIND, LM89_KIND_OPEN_2, edges[i], b, c));
+            }
+        }
+    }
+}
+
 static void test_operands(void)
 {
     static const uint8_t outside[][4] = {
@@ -477,6 +504,8 @@ static bool out_of_range(lm89_device device)
 {
     return refused(&device, LM89_CODE_RANGE, LM89_KIND_POWER_ON, 0, 0, 0)
         && refused(&device, LM89_CODE_RANGE, 0, 0, 0, 0)
+        && refused(&device, LM89_CODE_RANGE, LM89_KIND_CONVERSION_2, 0x19, 0x19, 0x00)
+        && refused(&device, LM89_CODE_RANGE, LM89_KIND_OPEN_2, 0x19, 0x01, 0x00)
         && refused(&device, LM89_CODE_RANGE, LM89_KIND_POWER_ON, 1, 0, 0);
 }
 
@@ -561,6 +590,7 @@ int main(void)
     test_what_stays(false);
     test_what_stays(true);
     test_kinds();
+    test_second_kinds();
     test_operands();
     test_zeros();
     test_ranges();

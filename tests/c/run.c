@@ -1,4 +1,7 @@
-/* lm89_run: empty slices, short room, prefixes, refusals, a pair of reads, and a long capture against the step. */
+/*
+ * lm89_run, on one device and on two: empty slices, short room, prefixes, refusals, a pair of reads, two devices that alert, and a long capture
+ * against the step.
+ */
 #include <string.h>
 
 #include "check.h"
@@ -7,14 +10,26 @@
 #define HEADER LM89_HEADER_BYTES
 #define UNTOUCHED 0xA7
 
-/* Two records: a write of the local high limit, and a read of it. */
-static const uint8_t two[] = {
+/* One device, two records: a write of the local high limit, and a read of it. */
+static const uint8_t one[] = {
     0x01, LM89_VARIANT_LM89_1C, 0x00, 0x00, 0x00, 0x02,
     LM89_KIND_WRITE, LM89_ADDRESS_LM89_1C, LM89_WRITE_LOCAL_HIGH_LIMIT, 0x50,
     LM89_KIND_READ, LM89_ADDRESS_LM89_1C, LM89_READ_LOCAL_HIGH_LIMIT, 0x00,
 };
 
-static const uint8_t two_answers[] = {0x04, 0x00, 0x04, 0x50};
+static const uint8_t one_answers[] = {0x04, 0x00, 0x04, 0x50};
+
+/* Request c: both are above their remote high limit of 70; the one at 4Ch, second in the header, answers first. */
+static const uint8_t both[] = {
+    0x02, LM89_VARIANT_LM89_1D, LM89_VARIANT_LM89C, 0x00, 0x00, 0x00, 0x05,
+    LM89_KIND_CONVERSION, 0x19, 0x46, 0x20,
+    LM89_KIND_CONVERSION_2, 0x19, 0x46, 0x20,
+    LM89_KIND_RECEIVE, LM89_ADDRESS_ALERT_RESPONSE, 0x00, 0x00,
+    LM89_KIND_RECEIVE, LM89_ADDRESS_ALERT_RESPONSE, 0x00, 0x00,
+    LM89_KIND_OPEN_2, 0x19, 0x00, 0x00,
+};
+
+static const uint8_t both_answers[] = {0x09, 0x00, 0x09, 0x00, 0x05, 0x99, 0x04, 0x9B, 0x0A, 0x00};
 
 static bool all(const uint8_t *bytes, size_t length, uint8_t value)
 {
@@ -26,13 +41,15 @@ static bool all(const uint8_t *bytes, size_t length, uint8_t value)
     return true;
 }
 
-/* The capture in the given room writes this much of two_answers, and not a byte behind, and ends with this code. */
-static bool runs(const uint8_t *capture, size_t length, size_t room, size_t written, unsigned code)
+#define MOST 16
+
+/* The capture in the given room writes this much of its answers, and not a byte behind, and ends with this code. */
+static bool gives(const uint8_t *capture, size_t length, const uint8_t *expected, size_t room, size_t written, unsigned code)
 {
-    uint8_t answers[16];
+    uint8_t answers[MOST];
     memset(answers, UNTOUCHED, sizeof answers);
     return lm89_run(capture, length, answers, room) == 16 * written + code
-        && memcmp(answers, two_answers, written) == 0
+        && memcmp(answers, expected, written) == 0
         && all(answers + written, sizeof answers - written, UNTOUCHED);
 }
 
@@ -42,42 +59,44 @@ static void test_empty(void)
     CHECK(lm89_run(NULL, 0, NULL, 0) == LM89_CODE_CUT_SHORT);
     CHECK(lm89_run(NULL, 0, answers, sizeof answers) == LM89_CODE_CUT_SHORT);
     CHECK(all(answers, sizeof answers, UNTOUCHED));
-    CHECK(lm89_run(two, sizeof two, NULL, 0) == LM89_CODE_NO_ROOM);
-    CHECK(lm89_run(two, HEADER, NULL, 0) == LM89_CODE_CUT_SHORT);
+    CHECK(lm89_run(one, sizeof one, NULL, 0) == LM89_CODE_NO_ROOM);
+    CHECK(lm89_run(one, HEADER, NULL, 0) == LM89_CODE_CUT_SHORT);
+    CHECK(lm89_run(both, sizeof both, NULL, 0) == LM89_CODE_NO_ROOM);
+    CHECK(lm89_run(both, LM89_HEADER_2_BYTES, NULL, 0) == LM89_CODE_CUT_SHORT);
 }
 
-static void test_room(void)
+/* In every room, also one that ends within a pair. */
+static void test_room(const uint8_t *capture, size_t length, const uint8_t *expected, size_t answered)
 {
-    CHECK(runs(two, sizeof two, 0, 0, LM89_CODE_NO_ROOM));
-    CHECK(runs(two, sizeof two, 1, 0, LM89_CODE_NO_ROOM));
-    CHECK(runs(two, sizeof two, 2, 2, LM89_CODE_NO_ROOM));
-    CHECK(runs(two, sizeof two, 3, 2, LM89_CODE_NO_ROOM));
-    CHECK(runs(two, sizeof two, 4, 4, LM89_CODE_DONE));
-    CHECK(runs(two, sizeof two, 5, 4, LM89_CODE_DONE));
-    CHECK(runs(two, sizeof two, 16, 4, LM89_CODE_DONE));
-}
-
-static void test_prefixes(void)
-{
-    for (size_t length = 0; length < sizeof two; length++) {
-        size_t written = length < HEADER ? 0 : 2 * ((length - HEADER) / 4);
-        CHECK(runs(two, length, 16, written, LM89_CODE_CUT_SHORT));
+    for (size_t room = 0; room <= MOST; room++) {
+        size_t written = room < answered ? room / 2 * 2 : answered;
+        CHECK(gives(capture, length, expected, room, written, room < answered ? LM89_CODE_NO_ROOM : LM89_CODE_DONE));
     }
 }
 
-/* The two records with one byte changed. */
+static void test_prefixes(const uint8_t *capture, size_t capture_length, const uint8_t *expected, size_t header)
+{
+    for (size_t length = 0; length < capture_length; length++) {
+        size_t written = length < header ? 0 : 2 * ((length - header) / 4);
+        CHECK(gives(capture, length, expected, MOST, written, LM89_CODE_CUT_SHORT));
+    }
+}
+
+/* The capture of one device with one byte changed. */
 static bool changed(size_t at, uint8_t byte, size_t room, size_t written, unsigned code)
 {
-    uint8_t capture[sizeof two];
-    memcpy(capture, two, sizeof two);
+    uint8_t capture[sizeof one];
+    memcpy(capture, one, sizeof one);
     capture[at] = byte;
-    return runs(capture, sizeof capture, room, written, code);
+    return gives(capture, sizeof capture, one_answers, room, written, code);
 }
 
 static void test_codes(void)
 {
     CHECK(changed(0, 0, 16, 0, LM89_CODE_DEVICE_COUNT));
-    CHECK(changed(0, 2, 16, 0, LM89_CODE_DEVICE_COUNT));
+    CHECK(changed(0, 3, 16, 0, LM89_CODE_DEVICE_COUNT));
+    CHECK(changed(0, 255, 16, 0, LM89_CODE_DEVICE_COUNT));
+    CHECK(changed(0, 2, 16, 0, LM89_CODE_VARIANT));
     CHECK(changed(1, 0, 16, 0, LM89_CODE_VARIANT));
     CHECK(changed(1, 4, 16, 0, LM89_CODE_VARIANT));
     CHECK(changed(5, 0, 16, 0, LM89_CODE_PAST_END));
@@ -85,9 +104,45 @@ static void test_codes(void)
     CHECK(changed(5, 3, 16, 4, LM89_CODE_CUT_SHORT));
     CHECK(changed(2, 1, 16, 4, LM89_CODE_CUT_SHORT));
     CHECK(changed(HEADER, 8, 0, 0, LM89_CODE_KIND));
+    CHECK(changed(HEADER + 4, 8, 3, 2, LM89_CODE_KIND));
+    CHECK(changed(HEADER + 4, 9, 3, 2, LM89_CODE_KIND));
     CHECK(changed(HEADER + 1, 0x80, 0, 0, LM89_CODE_OPERAND));
     CHECK(changed(HEADER + 4, 0, 3, 2, LM89_CODE_KIND));
     CHECK(changed(HEADER + 7, 1, 3, 2, LM89_CODE_OPERAND));
+}
+
+/* The capture of two devices with one byte changed. */
+static bool changed_of_two(size_t at, uint8_t byte, size_t room, size_t written, unsigned code)
+{
+    uint8_t capture[sizeof both];
+    memcpy(capture, both, sizeof both);
+    capture[at] = byte;
+    return gives(capture, sizeof capture, both_answers, room, written, code);
+}
+
+/* Request c: 2 before 9; 3, 4 and 7 at records of the second device. */
+static void test_codes_of_two(void)
+{
+    const size_t header = LM89_HEADER_2_BYTES;
+    CHECK(changed_of_two(0, 0, 16, 0, LM89_CODE_DEVICE_COUNT));
+    CHECK(changed_of_two(0, 3, 16, 0, LM89_CODE_DEVICE_COUNT));
+    CHECK(changed_of_two(1, 0, 16, 0, LM89_CODE_VARIANT));
+    CHECK(changed_of_two(1, 4, 16, 0, LM89_CODE_VARIANT));
+    CHECK(changed_of_two(1, 1, 16, 0, LM89_CODE_ADDRESS));
+    CHECK(changed_of_two(1, 2, 16, 10, LM89_CODE_DONE));
+    CHECK(changed_of_two(2, 0, 16, 0, LM89_CODE_VARIANT));
+    CHECK(changed_of_two(2, 4, 16, 0, LM89_CODE_VARIANT));
+    CHECK(changed_of_two(2, 2, 16, 0, LM89_CODE_ADDRESS));
+    CHECK(changed_of_two(2, 3, 16, 0, LM89_CODE_ADDRESS));
+    CHECK(changed_of_two(6, 0, 16, 0, LM89_CODE_PAST_END));
+    CHECK(changed_of_two(6, 4, 16, 8, LM89_CODE_PAST_END));
+    CHECK(changed_of_two(6, 6, 16, 10, LM89_CODE_CUT_SHORT));
+    CHECK(changed_of_two(header, 10, 0, 0, LM89_CODE_KIND));
+    CHECK(changed_of_two(header + 4, 0, 3, 2, LM89_CODE_KIND));
+    CHECK(changed_of_two(header + 7, 0x1F, 3, 2, LM89_CODE_OPERAND));
+    CHECK(changed_of_two(header + 7, 0x40, 3, 2, LM89_CODE_NO_ROOM));
+    CHECK(changed_of_two(header + 18, 1, 8, 8, LM89_CODE_OPERAND));
+    CHECK(changed_of_two(header + 19, 1, 8, 8, LM89_CODE_OPERAND));
 }
 
 /* Request a: 49.875 degrees, its high byte read, then 50.000: register 10 gives the byte of 49.875, then the latest. */
@@ -216,9 +271,12 @@ static void test_long(void)
 int main(void)
 {
     test_empty();
-    test_room();
-    test_prefixes();
+    test_room(one, sizeof one, one_answers, sizeof one_answers);
+    test_room(both, sizeof both, both_answers, sizeof both_answers);
+    test_prefixes(one, sizeof one, one_answers, HEADER);
+    test_prefixes(both, sizeof both, both_answers, LM89_HEADER_2_BYTES);
     test_codes();
+    test_codes_of_two();
     test_pair();
     test_long();
     return 0;

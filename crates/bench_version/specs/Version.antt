@@ -4,7 +4,7 @@ use Prim.Native.Nat.{ℕ, _+_, _*_}
 
 -- LM89_VERSION_MAJOR: another one where a struct or an answer is another
 abbrev pub major : ℕ
-major = 3
+major = 4
 
 -- LM89_VERSION_MINOR: another one for every other change
 abbrev pub minor : ℕ

@@ -2,7 +2,7 @@
 ghost use mathlib.Core.Path.{_≡_};
 ghost use Rattle.bench_version.specs.Version.{versionOf};
 
-const MAJOR: u32 = 3;
+const MAJOR: u32 = 4;
 
 const MINOR: u32 = 0;
 
