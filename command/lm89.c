@@ -58,11 +58,11 @@ static int help(void)
 {
     return print(USAGE
         "\n"
-        "lm89 list    lists a capture of an LM89, read from FILE, or from standard\n"
-        "             input with no FILE or with '-'. A line for each record: its\n"
-        "             number and its two answer bytes in hex. The last line is\n"
-        "             'end', the records done and the code: 0, or 1 to 5 if the\n"
-        "             capture is refused, or 6 if it is cut short.\n"
+        "lm89 list    lists a capture of one LM89, or of two on one bus, read from\n"
+        "             FILE, or from standard input with no FILE or with '-'. A line\n"
+        "             for each record: its number and its two answer bytes in hex.\n"
+        "             The last line is 'end', the records done and the code: 0, or\n"
+        "             1 to 5 or 9 if the capture is refused, or 6 if it is cut short.\n"
         "-h, --help   prints this text\n"
         "--version    prints the version\n"
         "\n"
@@ -88,18 +88,30 @@ static int version(char **words)
     return *words == NULL ? print("lm89 " VERSION(LM89_VERSION_MAJOR, LM89_VERSION_MINOR) "\n") : surplus("--version", *words);
 }
 
-/* Why a capture is not accepted and what to do, by code; lm89_list gives no other. */
-static const struct {
+/* Why a capture is not accepted, and what to do. */
+typedef struct {
     const char *why;
     const char *advice;
-} refusals[] = {
-    [LM89_CODE_DEVICE_COUNT] = {"the device count is not 1", "a capture is raw bytes, not hex text, and the first is 01h"},
+} refusal;
+
+/* By code; lm89_list gives no other. */
+static const refusal refusals[] = {
+    [LM89_CODE_DEVICE_COUNT] = {"the device count is not 1 or 2", "a capture is raw bytes, not hex text, and the first is 01h or 02h"},
     [LM89_CODE_VARIANT] = {"the variant is not 1, 2 or 3", "give 1 for LM89C, 2 for LM89-1C, 3 for LM89-1D"},
-    [LM89_CODE_KIND] = {"its kind is not 1 to 7", "correct the record"},
+    [LM89_CODE_KIND] = {"its kind is not 1 to 7", "correct the record: 8 and 9 are for captures of two devices"},
     [LM89_CODE_OPERAND] = {"an operand is outside the table of kinds", "correct the record by the table in lm89(1)"},
-    [LM89_CODE_PAST_END] = {"it comes after the last counted record", "remove the rest, or correct the record count (bytes 3 to 6)"},
-    [LM89_CODE_CUT_SHORT] = {"before its counted end", "add the missing bytes, or correct the record count (bytes 3 to 6)"},
+    [LM89_CODE_PAST_END] = {"it comes after the last counted record", "remove the rest, or correct the record count at the header's end"},
+    [LM89_CODE_CUT_SHORT] = {"before its counted end", "add the missing bytes, or correct the record count at the header's end"},
+    [LM89_CODE_ADDRESS] = {"both devices have one address", "put an LM89C, variant 1, beside an LM89-1C or LM89-1D, 2 or 3"},
 };
+
+static const refusal kind_of_two = {"its kind is not 1 to 9", "correct the record by the table in lm89(1)"};
+
+/* A record is refused at its last byte: what stands before the records done and its own first bytes is the header. */
+static bool record_of_two(lm89_listed listed)
+{
+    return listed.consumed == LM89_HEADER_2_BYTES + (uint64_t)LM89_RECORD_BYTES * listed.done + LM89_RECORD_BYTES - 1;
+}
 
 static int judged(const char *name, lm89_listed listed)
 {
@@ -108,8 +120,9 @@ static int judged(const char *name, lm89_listed listed)
     if (code == LM89_CODE_DONE) {
         return ACCEPTED;
     }
-    const char *why = refusals[code].why;
-    const char *advice = refusals[code].advice;
+    const refusal *told = code == LM89_CODE_KIND && record_of_two(listed) ? &kind_of_two : &refusals[code];
+    const char *why = told->why;
+    const char *advice = told->advice;
     if (code == LM89_CODE_CUT_SHORT) {
         const char *s = listed.consumed == 1 ? "" : "s";
         say("%s: ends after %" PRIu64 " byte%s, %s (code %u); %s", name, listed.consumed, s, why, code, advice);

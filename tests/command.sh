@@ -110,12 +110,20 @@ refused() {
 }
 
 test_messages() {
-    refused 21-refused-count 'byte 1 is refused: the device count is not 1 (code 1)'
+    refused 21-refused-count 'byte 1 is refused: the device count is not 1 or 2 (code 1)'
     refused 22-refused-variant 'byte 2 is refused: the variant is not 1, 2 or 3 (code 2)'
     refused 23-refused-kind 'byte 26 is refused, in record 5 (bytes 23 to 26): its kind is not 1 to 7 (code 3)'
     refused 24-refused-operand 'byte 22 is refused, in record 4 (bytes 19 to 22): an operand is outside the table of kinds (code 4)'
     refused 25-refused-past-end 'byte 23 is refused: it comes after the last counted record (code 5)'
     refused 26-cut-short 'ends after 24 bytes, before its counted end (code 6)'
+    refused 37-refused-first-variant 'byte 2 is refused: the variant is not 1, 2 or 3 (code 2)'
+    refused 38b-refused-second-variant 'byte 3 is refused: the variant is not 1, 2 or 3 (code 2)'
+    refused 39b-refused-address 'byte 3 is refused: both devices have one address (code 9)'
+    refused 40-refused-second-kind 'byte 14 is refused, in record 2 (bytes 11 to 14): its kind is not 1 to 7 (code 3)'
+    refused 40c-refused-kind-of-two 'byte 19 is refused, in record 3 (bytes 16 to 19): its kind is not 1 to 9 (code 3)'
+    refused 41-refused-second-operand 'byte 15 is refused, in record 2 (bytes 12 to 15): an operand is outside the table of kinds (code 4)'
+    refused 47-two-header-6 'ends after 6 bytes, before its counted end (code 6)'
+    refused 49-two-past-end 'byte 12 is refused: it comes after the last counted record (code 5)'
     ends 'message for standard input' 1 'lm89: standard input: byte 2 is refused: *' from "$here/22-refused-variant" "$lm89" list
     printf '\1' >"$here/one-byte"
     refused one-byte 'ends after 1 byte, before its counted end (code 6)'
