@@ -12,7 +12,7 @@ here=build/compare
 strict=(-std=c11 -Wall -Wextra -Werror -pedantic)
 # One build of second/ for both: what the sanitizers see, and the lines that are reached, which gcov counts by gcc.
 watched=(gcc "${strict[@]}" -fsanitize=address,undefined -fno-sanitize-recover=all --coverage)
-themes=(device device-ranges runs listed reader reader-ranges writer)
+themes=(device reader pair runs device-ranges reader-ranges writer listed)
 streams=("${themes[@]/#/$here/}")
 streams=("${streams[@]/%/.stream}")
 lines_least=99

@@ -1,15 +1,19 @@
 """Streams of calls and their results, taken apart and put in words. The format stands at the head of second/replay.c."""
 
 DEVICE_BYTES = 27
-READER_BYTES = 41
-HEADER_BYTES = 6
+READER_BYTES = 69
 RECORD_BYTES = 4
+DEVICES, FIRST, SECOND = 14, 15, 42  # where the device count and the two devices stand in a reader
 
 NAMES = {
     "N": "fresh reader", "R": "set the reader", "F": "feed", "E": "finish", "D": "set the device", "P": "power on",
-    "S": "step", "W": "write event", "H": "write header", "B": "decode", "C": "run",
+    "S": "step", "W": "write event", "H": "write header", "G": "write header of two", "B": "decode", "C": "run",
 }
-KINDS = {1: "write", 2: "read", 3: "send", 4: "receive", 5: "conversion", 6: "conversion, diode open", 7: "power-on"}
+KINDS = {
+    1: "write", 2: "read", 3: "send", 4: "receive", 5: "conversion", 6: "conversion, diode open", 7: "power-on",
+    8: "conversion of the second", 9: "conversion of the second, diode open",
+}
+ONE_DEVICE_KINDS = range(1, 8)
 DEVICE_FIELDS = [
     ("variant", 1), ("pointer", 1), ("one-shot pending", 1), ("status", 1), ("local reading", 1), ("remote reading", 2),
     ("live byte", 1), ("fault count", 1), ("local latch", 1), ("remote latch", 1), ("configuration 09", 1), ("rate 0A", 1),
@@ -19,10 +23,16 @@ DEVICE_FIELDS = [
 ]
 READER_FIELDS = [
     ("header bytes taken", 1), ("record count", 4), ("records done", 4), ("record bytes carried", 1), ("carried bytes", 3),
-    ("held code", 1),
-] + DEVICE_FIELDS
-FIXED_CALLS = {78: 1, 82: 1 + READER_BYTES, 69: 1, 68: 1 + DEVICE_BYTES, 80: 2, 83: 5, 87: 7, 72: 8, 66: 5}
+    ("held code", 1), ("device count", 1),
+] + [(f"{which}: {name}", length) for which in ("first", "second") for name, length in DEVICE_FIELDS]
+FIXED_CALLS = {78: 1, 82: 1 + READER_BYTES, 69: 1, 68: 1 + DEVICE_BYTES, 80: 2, 83: 5, 87: 7, 72: 8, 71: 9, 66: 6}
+ROOM_PLACES = {70: (3, 5), 87: (5, 7), 72: (6, 8), 71: (7, 9), 67: (5, 9)}  # where a call has the room that it lends
 FIXED_RESULTS = {78: 1, 82: 1, 69: 2, 68: 1, 80: 1 + DEVICE_BYTES, 83: 4 + DEVICE_BYTES, 66: 6}
+
+
+def kinds_under(devices):
+    """The kinds of record that a device count knows."""
+    return tuple(KINDS) if devices == 2 else ONE_DEVICE_KINDS
 
 
 def number(some_bytes):
@@ -41,10 +51,9 @@ def call_length(stream, at):
 
 def room(call):
     """The room that a call lends; 0 where it lends none."""
-    places = {70: (3, 5), 87: (5, 7), 72: (6, 8), 67: (5, 9)}
-    if call[0] not in places:
+    if call[0] not in ROOM_PLACES:
         return 0
-    first, last = places[call[0]]
+    first, last = ROOM_PLACES[call[0]]
     return number(call[first:last])
 
 
@@ -55,7 +64,7 @@ def result_length(call):
         return 10 + room(call) + READER_BYTES
     if command == 67:
         return 9 + room(call)
-    if command in (87, 72):
+    if command in (87, 72, 71):
         return 2 + room(call)
     return FIXED_RESULTS[command]
 
@@ -102,6 +111,22 @@ def run_capture(call):
     return call[9:]
 
 
+def header_bytes(devices):
+    """The bytes of a header, complete: the device count, that many variants, and the record count."""
+    return 5 + devices
+
+
+def header_length(capture):
+    """The bytes of a capture's header, were it complete; of one that begins with no device count, as of one device."""
+    return header_bytes(2 if capture[:1] == b"\2" else 1)
+
+
+def record_count(capture):
+    """The record count of a capture whose header is complete."""
+    end = header_length(capture)
+    return number(capture[end - 4 : end])
+
+
 def answered(records, answers):
     """(record, first answer byte) of each record that was answered."""
     return [(records[RECORD_BYTES * n : RECORD_BYTES * (n + 1)], first) for n, first in enumerate(answers[::2])]
@@ -139,7 +164,8 @@ def call_words(call):
         "S": lambda: event_words(call[1:5]),
         "W": lambda: f"{event_words(call[1:5])}, room {room(call)}",
         "H": lambda: f"variant {call[1]}, count {number(call[2:6])}, room {room(call)}",
-        "B": lambda: hexed(call[1:]),
+        "G": lambda: f"variants {call[1]} and {call[2]}, count {number(call[3:7])}, room {room(call)}",
+        "B": lambda: f"device count {call[1]}, {hexed(call[2:])}",
         "C": lambda: f"room {room(call)}, {len(run_capture(call))} bytes: {hexed(run_capture(call))}",
     }
     return f"{NAMES[command]}: {told[command]()}" if command in told else NAMES[command]
@@ -160,6 +186,7 @@ def result_fields(call, result):
         "E": [("command", 1), ("code", 1)],
         "W": [("command", 1), ("code", 1), ("room", lent)],
         "H": [("command", 1), ("code", 1), ("room", lent)],
+        "G": [("command", 1), ("code", 1), ("room", lent)],
         "B": [("command", 1), ("code", 1), ("kind", 1), ("a", 1), ("b", 1), ("c", 1)],
         "C": [("command", 1), ("result", 8), ("room", lent)],
     }

@@ -128,15 +128,17 @@ def fewer_calls(pair, parts, results, at):
 def shorter_run(pair, call):
     """A run with fewer records in its capture, the count told anew."""
     capture = calls.run_capture(call)
-    if len(capture) < calls.HEADER_BYTES:
+    header = calls.header_length(capture)
+    if len(capture) < header:
         return call
-    body = capture[calls.HEADER_BYTES :]
+    body = capture[header:]
     records = [body[i : i + calls.RECORD_BYTES] for i in range(0, len(body), calls.RECORD_BYTES)]
-    surplus = calls.number(capture[2:6]) - len(records)
+    surplus = calls.record_count(capture) - len(records)
 
     def rebuilt(kept):
         count = (len(kept) + surplus) % 2**32
-        return calls.run_call(capture[:2] + count.to_bytes(4, "big") + b"".join(kept), min(calls.room(call), 2 * len(kept) + 6))
+        lent = min(calls.room(call), 2 * len(kept) + 6)
+        return calls.run_call(capture[: header - 4] + count.to_bytes(4, "big") + b"".join(kept), lent)
 
     def still(kept):
         return pair.disagree([rebuilt(kept)])

@@ -16,7 +16,7 @@ import calls
 
 ROOT = pathlib.Path(__file__).resolve().parent.parent.parent
 BUILD = ROOT / "build" / "compare"
-THEMES = ("writer", "device-ranges", "reader-ranges", "device", "reader", "runs", "listed")
+THEMES = ("writer", "device-ranges", "reader-ranges", "pair", "device", "reader", "runs", "listed")
 SECONDS_MOST = 60
 
 

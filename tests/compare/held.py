@@ -7,15 +7,15 @@ from itertools import compress
 import calls
 import lowbyte
 from lowbyte import own_address
-from ranges import DEVICE, STANDBY, remote_reading
+from ranges import FIRST, STANDBY, remote_reading
 from steps import ALERT_MASK, ALERTING, COMPARATOR, QUEUE, eighths
 
-WRITE, CONVERSION, OPEN_DIODE, POWER_ON = 1, 5, 6, 7
+WRITE, CONVERSION, OPEN_DIODE, POWER_ON, CONVERSION_2 = 1, 5, 6, 7, 8
 ALERT, T_CRIT_A, ACKNOWLEDGED, TAKEN, HELD = 0x01, 0x02, 0x04, 0x08, 0x10
 FROM_HELD = 0xF0  # D4, and D5 to D7, which are always 0
 WITHOUT_HELD = bytes(range(HELD))  # first answer bytes that any record may have
 WITH_HELD = bytes(HELD | TAKEN | pins for pins in range(4))  # those of a conversion whose sum was held
-NO_CONVERSION = bytes(kind != CONVERSION for kind in range(256))
+NO_CONVERSION = bytes(kind not in (CONVERSION, CONVERSION_2) for kind in range(256))
 PENDING, CONFIGURATION, OFFSET, OFFSET_FINE = 2, 11, 17, 18  # places in a device
 LEAST, MOST = -1024, 1023
 ENDS = {"upper": MOST, "lower": LEAST}
@@ -143,7 +143,7 @@ class Steps:
 
 
 class Records:
-    """Follows what decides D4 through the records that a run or a feed answered."""
+    """Follows what decides D4 of one device through the records that a run or a feed answered."""
 
     def __init__(self, table, name):
         self.table = table
@@ -196,11 +196,11 @@ class Records:
 
 
 def see_run(table, capture, answered):
-    """A run, from its capture and the records that it answered, each with its first answer byte."""
+    """A run of one device, from its capture and the records that it answered, each with its first answer byte."""
     records = Records(table, "run")
     records.begin(bytes(calls.DEVICE_BYTES))
     held = [records.see(record, first) for record, first in answered]
-    if held[-1] and calls.number(capture[2:6]) == len(held):
+    if held[-1] and calls.record_count(capture) == len(held):
         records.count("held in the last record")
     if held[1:] and held[1]:
         records.count("held in the second record")
@@ -211,7 +211,7 @@ def see_run(table, capture, answered):
 
 
 class Feeds(Records):
-    """Follows the feeds of one reader."""
+    """Follows the feeds of one reader of one device."""
 
     def __init__(self, table):
         super().__init__(table, "feed")
@@ -223,7 +223,7 @@ class Feeds(Records):
 
     def see_feed(self, before, part, code, answered, after):
         """A feed whose reader was within its ranges and held no code."""
-        self.begin(before[DEVICE:] if before[0] >= 2 else bytes(calls.DEVICE_BYTES))
+        self.begin(before[FIRST:] if before[0] >= 2 else bytes(calls.DEVICE_BYTES))
         held = [self.see(record, first) for record, first in answered]
         if held and held[0]:
             self.see_first(before)
@@ -234,7 +234,7 @@ class Feeds(Records):
 
     def see_first(self, before):
         """A feed whose first record was held."""
-        if before[0] < calls.HEADER_BYTES:
+        if before[0] < calls.header_bytes(1):
             self.count("held in the first record after a header")
         elif self.ended == 0:
             self.count(f"cut after {before[9]} bytes of a held record")

@@ -6,7 +6,7 @@
 #include <stdlib.h>
 #include <string.h>
 
-enum { DEVICE_BYTES = 27, READER_BYTES = 41, LENT_MOST = 1000000, GUARD = 64, FILL = 0xA5 };
+enum { DEVICE_BYTES = 27, READER_BYTES = 14 + 1 + 2 * DEVICE_BYTES, LENT_MOST = 1000000, GUARD = 64, FILL = 0xA5 };
 
 static int command;                /* the call being answered */
 static unsigned long long taken;   /* bytes of the stream taken so far */
@@ -152,7 +152,9 @@ static lm89_reader get_reader(void)
     reader.carried = dump[9];
     memcpy(reader.bytes, dump + 10, sizeof reader.bytes);
     reader.held = dump[13];
-    reader.device = device_of(dump + 14);
+    reader.bus.devices = dump[14];
+    reader.bus.first = device_of(dump + 15);
+    reader.bus.second = device_of(dump + 15 + DEVICE_BYTES);
     return reader;
 }
 
@@ -164,7 +166,9 @@ static void put_reader(const lm89_reader *reader)
     put_byte(reader->carried);
     put(reader->bytes, sizeof reader->bytes);
     put_byte(reader->held);
-    put_device(&reader->device);
+    put_byte(reader->bus.devices);
+    put_device(&reader->bus.first);
+    put_device(&reader->bus.second);
 }
 
 /* ---- Calls ------------------------------------------------------------- */
@@ -220,13 +224,35 @@ static void write_header(void)
     put_room(room);
 }
 
-/* The library's judgement of a record is its writer's: the event is what was written, and all zeros where it is refused. */
+static void write_header_2(void)
+{
+    uint8_t first = (uint8_t)get_number(1);
+    uint8_t second = (uint8_t)get_number(1);
+    uint32_t count = get_number(4);
+    uint32_t room = get_number(2);
+    put_byte(lm89_write_header_2(first, second, count, lend(room), room));
+    put_room(room);
+}
+
+/* The library's judgement of a record: under a device count of 2 the event writer's, into four bytes; under any other that of a step,
+ * which knows one device alone. */
+static uint8_t judgement(uint8_t devices, const uint8_t *record, uint8_t *room)
+{
+    lm89_device device = lm89_power_on(LM89_VARIANT_LM89C);
+    uint8_t code = devices == 2 ? LM89_CODE_DONE : lm89_step(&device, record[0], record[1], record[2], record[3]).code;
+    if (code != LM89_CODE_DONE)
+        return code;
+    return lm89_write_event(record[0], record[1], record[2], record[3], room, LM89_RECORD_BYTES);
+}
+
+/* The event is what the event writer wrote, and all zeros where the record is refused. */
 static void decode(void)
 {
     static const uint8_t no_event[LM89_RECORD_BYTES];
+    uint8_t devices = (uint8_t)get_number(1);
     uint8_t record[LM89_RECORD_BYTES];
     get(record, sizeof record);
-    uint8_t code = lm89_write_event(record[0], record[1], record[2], record[3], lend(sizeof record), sizeof record);
+    uint8_t code = judgement(devices, record, lend(sizeof record));
     put_byte(code);
     if (code == LM89_CODE_DONE) {
         put_room(sizeof record);
@@ -259,6 +285,7 @@ static void answer(lm89_reader *reader, lm89_device *device)
     case 'S': step(device); break;
     case 'W': write_event(); break;
     case 'H': write_header(); break;
+    case 'G': write_header_2(); break;
     case 'B': decode(); break;
     case 'C': run(); break;
     default: stop("there is no such call");

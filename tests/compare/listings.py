@@ -52,9 +52,12 @@ def main():
     statuses = [lm89[0] for _, lm89 in pairs]
     lines = sum(second[1].count(b"\n") for second, _ in pairs)
     held = sum(held_lines(second[1]) for second, _ in pairs)
+    of_two = [status for capture, status in zip(captures, statuses) if capture[:1] == b"\2"]
     print(f"listings: {len(pairs)} captures agree, {statuses.count(0)} accepted and {statuses.count(1)} not, {lines} lines, {held} with D4")
-    if set(statuses) != {0, 1} or not held:
-        print(f"listings: {sys.argv[3]} must have captures accepted and others, and lines with D4: add them to tests/compare/streams.c")
+    print(f"listings: {len(of_two)} of them are of two devices, {of_two.count(0)} accepted")
+    if set(statuses) != {0, 1} or set(of_two) != {0, 1} or not held:
+        wanted = "captures of one and of two devices, accepted and others, and lines with D4"
+        print(f"listings: {sys.argv[3]} must have {wanted}: add them to tests/compare/streams.c")
         return 1
     return 0
 

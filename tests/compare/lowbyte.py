@@ -1,11 +1,11 @@
 """What steps, feeds and runs show of request a: a read of 01 keeps the low byte, the next read of 10 gives it and lets go."""
 import calls
 import ranges
-from ranges import DEVICE, LOW, LOW_BYTES, LOW_KEPT
+from ranges import FIRST, LOW, LOW_BYTES, LOW_KEPT
 
 HIGH_BYTE, STATUS, LOW_BYTE = 0x01, 0x02, 0x10
 ALERT_RESPONSE = 0x0C
-READER_LOW_KEPT, READER_POINTER = DEVICE + LOW_KEPT, DEVICE + 1  # where a reader has these fields of its device
+READER_LOW_KEPT, READER_POINTER = FIRST + LOW_KEPT, FIRST + 1  # where a reader has these fields of its first device
 BUS_KINDS = ("write", "read", "send", "receive")
 WAYS = ("read", "receive")
 ANY_OTHER = "another register"
@@ -251,7 +251,7 @@ class Records:
 
 
 def see_run(table, variant, answered):
-    """A run, from the records that it answered, each with its first answer byte."""
+    """A run of one device, from the records that it answered, each with its first answer byte."""
     records = Records(table, "run")
     records.begin(variant, 0)
     for record, first_answer in answered:
@@ -259,7 +259,7 @@ def see_run(table, variant, answered):
 
 
 class Feeds(Records):
-    """Follows the feeds of one reader."""
+    """Follows the feeds of one reader of one device."""
 
     def __init__(self, table):
         super().__init__(table, "feed")
@@ -275,19 +275,19 @@ class Feeds(Records):
         if before[0] < 2 <= after[0]:
             self.see_variant(before, after)
         self.between.add("cut")
-        self.begin(after[DEVICE], before[READER_POINTER] if before[0] >= 2 else 0)
-        within = self.cut and before[0] == calls.HEADER_BYTES
+        self.begin(after[FIRST], before[READER_POINTER] if before[0] >= 2 else 0)
+        within = self.cut and before[0] == calls.header_bytes(1)
         for number, (record, first_answer) in enumerate(answered):
             reads = self.see(record, first_answer)
             if reads and number == 0 and within and before[READER_LOW_KEPT]:
                 self.count(f"cut after {before[9]} bytes of the record that reads 10")
         if code == 7:
-            self.see_no_room(after[10:13] + part[consumed : consumed + 1], after[DEVICE:])
+            self.see_no_room(after[10:13] + part[consumed : consumed + 1], after[FIRST:])
         if part:
             self.cut = code == 0
 
     def see_variant(self, before, after):
-        if before[READER_LOW_KEPT] and after[0] < calls.HEADER_BYTES and not after[READER_LOW_KEPT]:
+        if before[READER_LOW_KEPT] and after[0] < calls.header_bytes(1) and not after[READER_LOW_KEPT]:
             self.count("a variant byte lets go")
         self.first = None
 

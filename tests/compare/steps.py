@@ -9,7 +9,7 @@ BITS = {0x40: "LHIGH", 0x20: "LLOW", 0x10: "RHIGH", 0x08: "RLOW", 0x04: "OPEN", 
 REMOTE_BITS = {0x10: "the high limit", 0x08: "the low limit", 0x02: "T_CRIT"}
 ALERTING = 0x7B
 ALERT_MASK, QUEUE, COMPARATOR = 0x80, 0x01, 0x01
-LIMITS = ("local high", "local low", "local T_CRIT", "remote high", "remote low", "remote T_CRIT")
+LIMITS = ("local high", "local low", "local T_CRIT", "remote high", "remote low", "remote T_CRIT")  # in the order of `see_limits`
 PLACES = {0: "at the limit", 1: "one step out", 2: "two steps out", -1: "one step within", -2: "two steps within"}
 NAMED_SUMS = {1023: "1023", 1024: "1024 held to 1023", -1024: "-1024", -1025: "-1025 held to -1024"}
 OTHER_ADDRESSES = ("0Ch", "the other part's", "any other")
@@ -278,12 +278,11 @@ class Steps:
 
     def see_limits(self, after):
         local, remote = degrees(after[4]), ranges.remote_reading(after)
-        beyond = {
-            "local high": local - degrees(after[13]), "local low": degrees(after[14]) - local,
-            "local T_CRIT": local - degrees(after[22]), "remote high": remote - eighths(after[15], after[19]),
-            "remote low": eighths(after[16], after[20]) - remote, "remote T_CRIT": remote - degrees(after[21]) * 8,
-        }
-        for limit, steps in beyond.items():
+        beyond = (
+            local - degrees(after[13]), degrees(after[14]) - local, local - degrees(after[22]),
+            remote - eighths(after[15], after[19]), eighths(after[16], after[20]) - remote, remote - degrees(after[21]) * 8,
+        )
+        for limit, steps in zip(LIMITS, beyond):
             if steps in PLACES:
                 self.table.count(f"P3 {limit}: {PLACES[steps]}")
 

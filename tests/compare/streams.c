@@ -2,7 +2,8 @@
  *
  *   device          steps from power-on and from random states within their ranges
  *   device-ranges   devices with one field at or past an end of its range; every register, every address
- *   reader          captures whole and damaged, cut at every place, in every room
+ *   pair            records on two devices, one a feed, from headers and from random states
+ *   reader          captures of one device and of two, whole and damaged, cut at every place, in every room
  *   reader-ranges   readers with one field at or past an end of its range
  *   writer          the writers and the decoder
  *   runs            whole captures, most of them long
@@ -15,9 +16,11 @@
 #include <stdlib.h>
 #include <string.h>
 
-enum { SETTINGS = 14, DEVICE_BYTES = 27, READER_BYTES = 41, HEADER_BYTES = 6, RECORD_BYTES = 4 };
+enum { SETTINGS = 14, DEVICE_BYTES = 27, READER_BYTES = 14 + 1 + 2 * DEVICE_BYTES, RECORD_BYTES = 4 };
+enum { HEADER_BYTES = 6, HEADER_2_BYTES = 7 }; /* of one device, of two */
 
-enum { WRITE = 1, READ, SEND, RECEIVE, CONVERSION, OPEN_DIODE, POWER_ON };
+enum { WRITE = 1, READ, SEND, RECEIVE, CONVERSION, OPEN_DIODE, POWER_ON, CONVERSION_2, OPEN_DIODE_2 };
+enum { OF_SECOND = CONVERSION_2 - CONVERSION }; /* from a kind to that of the second device */
 
 /* Places of the settable bytes, by rising write address. */
 enum {
@@ -36,7 +39,8 @@ static const uint8_t readable[] = {
 };
 static const uint8_t only_writable[] = { 0x09, 0x0A, 0x0B, 0x0C, 0x0D, 0x0E, 0x0F };
 static const uint8_t outside[] = { 0x15, 0x18, 0x1A, 0x1F, 0x22, 0x30, 0x80, 0xB0, 0xBE, 0xC0, 0xFD };
-static const uint8_t unknown_kinds[] = { 0, 8, 9, 0x80, 0x81, 0xFF };
+static const uint8_t unknown_kinds[] = { 0, 8, 9, 0x80, 0x81, 0xFF };      /* of one device */
+static const uint8_t unknown_kinds_2[] = { 0, 10, 11, 0x80, 0x88, 0xFF }; /* of two */
 
 enum { HIGH_BYTE = 0x01, STATUS = 0x02, ONE_SHOT = 0x0F, LOW_BYTE = 0x10, ALERT_RESPONSE = 0x0C };
 enum { ALERT_MASK = 0x80, STANDBY = 0x40, FAULT_QUEUE = 0x01, COMPARATOR = 0x01 };
@@ -46,7 +50,7 @@ enum { LOW_STEP = 32, LOW_BYTES = 8 }; /* the low bytes of readings: so many, so
 /* Places in a device dump and in a reader dump. */
 enum { AT_VARIANT, AT_POINTER, AT_PENDING, AT_STATUS, AT_LOCAL, AT_REMOTE, AT_LIVE = 7, AT_FAULTS, AT_LOCAL_LATCH,
        AT_REMOTE_LATCH, AT_SETTINGS, AT_LOW = AT_SETTINGS + SETTINGS, AT_LOW_KEPT };
-enum { AT_HEADER, AT_COUNT, AT_DONE = 5, AT_CARRIED = 9, AT_CARRY, AT_HELD = 13, AT_DEVICE };
+enum { AT_HEADER, AT_COUNT, AT_DONE = 5, AT_CARRIED = 9, AT_CARRY, AT_HELD = 13, AT_DEVICES, AT_FIRST, AT_SECOND = AT_FIRST + DEVICE_BYTES };
 
 #define COUNT_OF(table) (sizeof(table) / sizeof((table)[0]))
 #define ONE_OF(table) ((table)[below(COUNT_OF(table))])
@@ -163,9 +167,17 @@ static void call_write_header(uint8_t variant, uint32_t count, uint32_t room)
     put_number(room, 2);
 }
 
-static void call_decode(record bytes)
+static void call_write_header_2(uint8_t first, uint8_t second, uint32_t count, uint32_t room)
 {
-    uint8_t call[] = { 'B', bytes.kind, bytes.a, bytes.b, bytes.c };
+    uint8_t variants[] = { 'G', first, second };
+    put(variants, sizeof variants);
+    put_number(count, 4);
+    put_number(room, 2);
+}
+
+static void call_decode(unsigned devices, record bytes)
+{
+    uint8_t call[] = { 'B', (uint8_t)devices, bytes.kind, bytes.a, bytes.b, bytes.c };
     put(call, sizeof call);
 }
 
@@ -183,6 +195,7 @@ enum { PLAN_MOST = 32 };
 
 typedef struct {
     uint8_t variant;
+    bool second; /* the second device of two: its conversions are of kinds 08 and 09 */
     uint8_t set[SETTINGS];
     record plan[PLAN_MOST];
     unsigned planned;
@@ -207,6 +220,8 @@ static void power_on_settings(uint8_t *set, uint8_t variant)
 
 static void plan(bench *b, uint8_t kind, uint8_t first, uint8_t second, uint8_t third)
 {
+    if (b->second && (kind == CONVERSION || kind == OPEN_DIODE))
+        kind += OF_SECOND;
     if (b->planned < PLAN_MOST)
         b->plan[b->planned++] = (record){ kind, first, second, third };
 }
@@ -501,8 +516,7 @@ static void scene_open(bench *b)
     plan(b, READ, own_address(b), one_in(2) ? HIGH_BYTE : STATUS, 0);
 }
 
-/* Limits so wide that an open diode sets no bit but OPEN, if any; then status and alert response. */
-static void scene_open_alone(bench *b)
+static void plan_wide_limits(bench *b)
 {
     static const uint8_t high[] = { LOCAL_HIGH, LOCAL_CRIT, REMOTE_HIGH, REMOTE_CRIT };
     static const uint8_t low[] = { LOCAL_LOW, REMOTE_LOW };
@@ -510,6 +524,12 @@ static void scene_open_alone(bench *b)
         plan_set(b, high[i], 127);
     for (size_t i = 0; i < COUNT_OF(low); i++)
         plan_set(b, low[i], 0x80);
+}
+
+/* Limits so wide that an open diode sets no bit but OPEN, if any; then status and alert response. */
+static void scene_open_alone(bench *b)
+{
+    plan_wide_limits(b);
     plan_set(b, CONFIGURATION, one_in(2) ? FAULT_QUEUE : 0);
     plan(b, READ, own_address(b), STATUS, 0);
     plan(b, OPEN_DIODE, local_near(b), 0, 0);
@@ -772,11 +792,246 @@ static void start(bench *b, uint8_t variant)
     power_on_settings(b->set, variant);
 }
 
+/* ---- Request c: two devices on one bus ------------------------------------ */
+
+enum { PAIR_PLAN_MOST = 3 * PLAN_MOST, ORDERS = 4 };
+
+/* The pairs of variants that may share a bus, first and second. */
+static const uint8_t orders[ORDERS][2] = { { 1, 2 }, { 1, 3 }, { 2, 1 }, { 3, 1 } };
+
+typedef struct {
+    bench one[2]; /* the first and the second */
+    record plan[PAIR_PLAN_MOST];
+    unsigned planned;
+    unsigned played;
+} pair;
+
+static void start_pair(pair *p, unsigned order)
+{
+    memset(p, 0, sizeof *p);
+    start(&p->one[0], orders[order][0]);
+    start(&p->one[1], orders[order][1]);
+    p->one[1].second = true;
+}
+
+static void plan_on_pair(pair *p, record r)
+{
+    if (p->planned < PAIR_PLAN_MOST)
+        p->plan[p->planned++] = r;
+}
+
+static void plan_alert_responses(pair *p, unsigned times)
+{
+    while (times-- > 0)
+        plan_on_pair(p, (record){ RECEIVE, ALERT_RESPONSE, 0, 0 });
+}
+
+/* Moves what a bench has planned, up to this place of its plan, to the pair's plan. */
+static void move_plan(pair *p, bench *from, unsigned to)
+{
+    while (from->played < to)
+        plan_on_pair(p, from->plan[from->played++]);
+}
+
+static bool has_power_on(const bench *b)
+{
+    bool found = false;
+    for (unsigned i = 0; i < b->planned; i++)
+        found |= b->plan[i].kind == POWER_ON;
+    return found;
+}
+
+/* Both benches' plans are used up; a power-on of one has restarted both. */
+static void end_plans(pair *p)
+{
+    bool restarted = has_power_on(&p->one[0]) || has_power_on(&p->one[1]);
+    for (unsigned i = 0; i < 2; i++) {
+        bench *b = &p->one[i];
+        b->planned = b->played = 0;
+        if (restarted)
+            power_on_settings(b->set, b->variant);
+    }
+}
+
+/* What both benches have planned, each in its own order, the one's between the other's. */
+static void merge_plans(pair *p)
+{
+    unsigned turn = below(2);
+    while (p->one[0].played < p->one[0].planned || p->one[1].played < p->one[1].planned) {
+        bench *b = &p->one[turn];
+        if (b->played < b->planned)
+            move_plan(p, b, b->played + 1);
+        turn = below(2);
+    }
+    end_plans(p);
+}
+
+/* The plan of one device, and within it, at this place, that of the other. */
+static void splice_plans(pair *p, unsigned of, unsigned place)
+{
+    move_plan(p, &p->one[of], place);
+    move_plan(p, &p->one[!of], p->one[!of].planned);
+    move_plan(p, &p->one[of], p->one[of].planned);
+    end_plans(p);
+}
+
+/* How a device stands at an alert response: it answers; it pulls nothing; it is masked; it pulls as a comparator; it is a comparator that
+ * pulls nothing, though its status would. */
+enum { ANSWERING, QUIET, MASKED_OUT, COMPARING, COMPARING_QUIET, STANDINGS };
+
+static bool comparing(unsigned standing)
+{
+    return standing == COMPARING || standing == COMPARING_QUIET;
+}
+
+/* A conversion that any limit but the widest and the narrowest leaves alone. */
+static void plan_mild(bench *b)
+{
+    uint8_t local = (uint8_t)below(100);
+    plan_readings(b, local, (int)below(100));
+}
+
+/* Records after which a device stands so. */
+static void plan_standing(bench *b, unsigned standing)
+{
+    plan_wide_limits(b);
+    plan_set(b, OFFSET, 0);
+    plan(b, READ, own_address(b), STATUS, 0);
+    plan_set(b, ALERT_MODE, comparing(standing) ? COMPARATOR : 0);
+    plan_set(b, CONFIGURATION, standing == MASKED_OUT ? ALERT_MASK : 0);
+    if (standing != QUIET) {
+        plan_set(b, LOCAL_HIGH, 0x80);
+        plan_mild(b);
+    }
+    if (standing == COMPARING_QUIET)
+        plan_set(b, LOCAL_HIGH, 127);
+    if (standing == QUIET || standing == COMPARING_QUIET)
+        plan_mild(b);
+}
+
+/* Both devices at alert responses. */
+typedef struct {
+    unsigned order;
+    unsigned standing[2]; /* of the first and the second */
+} alert_row;
+
+static void every_alert(void (*take)(alert_row))
+{
+    for (unsigned order = 0; order < ORDERS; order++)
+        for (unsigned first = 0; first < STANDINGS; first++)
+            for (unsigned second = 0; second < STANDINGS; second++)
+                take((alert_row){ order, { first, second } });
+}
+
+/* Gives the place of the first alert response. */
+static unsigned plan_alert(pair *p, alert_row r)
+{
+    plan_standing(&p->one[0], r.standing[0]);
+    plan_standing(&p->one[1], r.standing[1]);
+    merge_plans(p);
+    unsigned place = p->planned;
+    plan_alert_responses(p, 1 + below(3));
+    return place;
+}
+
+/* A row of request a on one device, with an event of the other of some sort between its two reads. */
+typedef struct {
+    unsigned order;
+    unsigned of; /* 0 the first, 1 the second */
+    row own;
+    unsigned other;
+} pair_row;
+
+static row row_of_sort(unsigned sort)
+{
+    row r = { sort, below(SETUPS), HIGH_BYTE, READ, READ };
+    r.first_way = ONE_OF(ways);
+    r.second_way = ONE_OF(ways);
+    return r;
+}
+
+/* The device itself has nothing between its reads, or any sort of event. */
+static void every_pair_row(void (*take)(pair_row))
+{
+    for (unsigned other = 0; other < SORTS; other++)
+        for (unsigned of = 0; of < 2; of++)
+            for (unsigned keeps = 0; keeps < 2; keeps++) {
+                unsigned sort = keeps ? 0 : below(SORTS);
+                row own = row_of_sort(sort);
+                if (!keeps && one_in(4))
+                    own.first = LOW_BYTE;
+                take((pair_row){ below(ORDERS), of, own, other });
+            }
+}
+
+static stretch plan_pair_row(pair *p, pair_row r)
+{
+    stretch between = plan_row(&p->one[r.of], r.own);
+    plan_between(&p->one[!r.of], r.other);
+    unsigned inserted = p->one[!r.of].planned;
+    splice_plans(p, r.of, between.from + below(between.to - between.from + 1));
+    between.to += inserted;
+    return between;
+}
+
+/* A row of request b on one device, and a conversion of the other right behind. */
+typedef struct {
+    unsigned order;
+    unsigned of;
+    sum_row own;
+} pair_sum;
+
+static void every_pair_sum(void (*take)(pair_sum))
+{
+    for (unsigned offset = 0; offset < OFFSETS; offset++)
+        for (int past = WITHIN; past <= FAR; past++)
+            for (unsigned which = 0; which < 8; which++) {
+                sum_row own = { which & 1, past, offset, below(SORTS_BEHIND) };
+                take((pair_sum){ below(ORDERS), which >> 1 & 1, own });
+            }
+}
+
+/* Gives the place of the conversion whose sum it is. */
+static unsigned plan_pair_sum(pair *p, pair_sum r)
+{
+    unsigned place = plan_sum(&p->one[r.of], r.own);
+    plan_plain(&p->one[!r.of], 1 + below(2));
+    splice_plans(p, r.of, place + 1);
+    return place;
+}
+
+static unsigned any_standing(void)
+{
+    return one_in(2) ? ANSWERING : below(STANDINGS);
+}
+
+/* One scene of each device, the one's records between the other's; or both at alert responses. */
+static void plan_pair_scene(pair *p)
+{
+    p->planned = 0;
+    p->played = 0;
+    if (one_in(8)) {
+        unsigned first = any_standing();
+        plan_alert(p, (alert_row){ 0, { first, any_standing() } });
+        return;
+    }
+    plan_scene(&p->one[0]);
+    plan_scene(&p->one[1]);
+    merge_plans(p);
+}
+
+static record next_of_pair(pair *p)
+{
+    while (p->played == p->planned)
+        plan_pair_scene(p);
+    return p->plan[p->played++];
+}
+
 /* ---- Records, right and broken ------------------------------------------ */
 
 static bool has_operand(uint8_t kind, unsigned operand)
 {
-    static const uint8_t operands[] = { 0, 3, 2, 2, 1, 3, 1, 0 };
+    static const uint8_t operands[] = { 0, 3, 2, 2, 1, 3, 1, 0, 3, 1 };
     return operand < operands[kind];
 }
 
@@ -787,14 +1042,15 @@ static record bus_record(uint8_t kind, uint8_t address, uint8_t number, uint8_t 
 
 static record plain_record(uint8_t kind)
 {
-    record r = kind == CONVERSION ? any_conversion() : (record){ kind, 0, 0, 0 };
+    record r = kind == CONVERSION || kind == CONVERSION_2 ? any_conversion() : (record){ kind, 0, 0, 0 };
+    r.kind = kind;
     if (kind >= WRITE && kind <= RECEIVE)
         r.a = below(128);
     if (kind >= WRITE && kind <= SEND)
         r.b = any_byte();
     if (kind == WRITE)
         r.c = any_byte();
-    if (kind == OPEN_DIODE)
+    if (kind == OPEN_DIODE || kind == OPEN_DIODE_2)
         r.a = any_byte();
     return r;
 }
@@ -818,7 +1074,7 @@ static bool break_operand(record *r, unsigned operand)
     uint8_t *places[] = { &r->a, &r->b, &r->c };
     if (operand == 0 && r->kind <= RECEIVE)
         r->a |= 0x80;
-    else if (operand == 2 && r->kind == CONVERSION)
+    else if (operand == 2 && (r->kind == CONVERSION || r->kind == CONVERSION_2))
         r->c = (uint8_t)(r->c + 1 + below(31));
     else if (!has_operand(r->kind, operand))
         *places[operand] = not_zero();
@@ -834,9 +1090,9 @@ static void break_one_operand(record *r)
         operand = (operand + 1) % 3;
 }
 
-static void break_kind(record *r)
+static void break_kind(record *r, unsigned devices)
 {
-    r->kind = ONE_OF(unknown_kinds);
+    r->kind = devices == 2 ? ONE_OF(unknown_kinds_2) : ONE_OF(unknown_kinds);
     if (one_in(2))
         r->a = r->b = r->c = 0xFF;
 }
@@ -857,7 +1113,7 @@ static void every_operand(uint8_t kind, void (*take)(record))
     }
 }
 
-/* Each of the 256 kinds, and next to the seven that are some, every value of each operand. */
+/* Each of the 256 kinds; of those from 0 to 10, nine being some, every value of each operand. */
 static void every_kind(void (*take)(record))
 {
     for (unsigned kind = 0; kind < 256; kind++) {
@@ -867,7 +1123,7 @@ static void every_kind(void (*take)(record))
         take(r);
         take((record){ (uint8_t)kind, 0xFF, 0xFF, 0xFF });
     }
-    for (unsigned kind = 0; kind <= POWER_ON + 1; kind++)
+    for (unsigned kind = 0; kind <= OPEN_DIODE_2 + 1; kind++)
         every_operand((uint8_t)kind, take);
 }
 
@@ -939,7 +1195,7 @@ static void step(record event)
     if (one_in(20)) {
         record broken = event;
         if (one_in(4))
-            break_kind(&broken);
+            break_kind(&broken, 1);
         else
             break_one_operand(&broken);
         call_step(broken);
@@ -1189,6 +1445,8 @@ enum { CAPTURE_MOST = 1000000 };
 
 typedef struct {
     uint8_t bytes[CAPTURE_MOST];
+    unsigned devices;
+    size_t header; /* its bytes */
     size_t length;
     size_t records;
     size_t refused; /* where the first byte that is refused for good stands; the length if there is none */
@@ -1209,32 +1467,40 @@ static record record_at(const uint8_t *bytes)
     return (record){ bytes[0], bytes[1], bytes[2], bytes[3] };
 }
 
-/* A capture of so many records, to be filled in. */
-static void begin_capture(capture *c, uint8_t variant, size_t records)
+/* A capture of so many devices and records, to be filled in. */
+static void begin_capture(capture *c, unsigned devices, const uint8_t *variants, size_t records)
 {
-    c->bytes[0] = 1;
-    c->bytes[1] = variant;
-    store(c->bytes + 2, (uint32_t)records, 4);
-    c->length = HEADER_BYTES + RECORD_BYTES * records;
+    c->devices = devices;
+    c->bytes[0] = (uint8_t)devices;
+    memcpy(c->bytes + 1, variants, devices);
+    store(c->bytes + 1 + devices, (uint32_t)records, 4);
+    c->header = 5 + devices;
+    c->length = c->header + RECORD_BYTES * records;
     c->records = records;
     c->refused = c->length;
+}
+
+/* Where a record stands. */
+static uint8_t *record_place(capture *c, size_t index)
+{
+    return c->bytes + c->header + RECORD_BYTES * index;
 }
 
 static void make_capture(capture *c, size_t records)
 {
     bench b;
     start(&b, (uint8_t)(1 + below(3)));
-    begin_capture(c, b.variant, records);
+    begin_capture(c, 1, &b.variant, records);
     for (size_t i = 0; i < records; i++)
-        put_record(c->bytes + HEADER_BYTES + RECORD_BYTES * i, next_record(&b));
+        put_record(record_place(c, i), next_record(&b));
 }
 
 /* A capture of what is planned. */
 static void put_plan(capture *c, const bench *b)
 {
-    begin_capture(c, b->variant, b->planned);
+    begin_capture(c, 1, &b->variant, b->planned);
     for (size_t i = 0; i < b->planned; i++)
-        put_record(c->bytes + HEADER_BYTES + RECORD_BYTES * i, b->plan[i]);
+        put_record(record_place(c, i), b->plan[i]);
 }
 
 /* A row of request a as a capture, for the device of this bench. */
@@ -1270,10 +1536,10 @@ static unsigned make_sum(capture *c, sum_row r)
     return put_sum(c, &b, r);
 }
 
-/* A place between the two reads of a row; the last ones are within the record that reads 10. */
-static size_t cut_between(stretch between)
+/* A place of a capture between the two reads of its row; the last ones are within the record that reads 10. */
+static size_t cut_between(const capture *c, stretch between)
 {
-    return HEADER_BYTES + RECORD_BYTES * between.from + below(RECORD_BYTES * (between.to - between.from + 1));
+    return c->header + RECORD_BYTES * between.from + below(RECORD_BYTES * (between.to - between.from + 1));
 }
 
 static void refuse_at(capture *c, size_t place)
@@ -1284,7 +1550,7 @@ static void refuse_at(capture *c, size_t place)
 
 static void damage_header(capture *c, unsigned place)
 {
-    static const uint8_t counts[] = { 0, 2, 3, 0x80, 255 };
+    static const uint8_t counts[] = { 0, 3, 4, 0x82, 255 };
     static const uint8_t variants[] = { 0, 4, 5, 0x81, 255 };
     c->bytes[place] = place == 0 ? ONE_OF(counts) : ONE_OF(variants);
     refuse_at(c, place);
@@ -1292,24 +1558,24 @@ static void damage_header(capture *c, unsigned place)
 
 static void damage_kind(capture *c, size_t index)
 {
-    uint8_t *bytes = c->bytes + HEADER_BYTES + RECORD_BYTES * index;
+    uint8_t *bytes = record_place(c, index);
     record r = record_at(bytes);
-    break_kind(&r);
+    break_kind(&r, c->devices);
     put_record(bytes, r);
-    refuse_at(c, HEADER_BYTES + RECORD_BYTES * index + 3);
+    refuse_at(c, c->header + RECORD_BYTES * index + 3);
 }
 
 static void damage_operand(capture *c, size_t index)
 {
-    uint8_t *bytes = c->bytes + HEADER_BYTES + RECORD_BYTES * index;
+    uint8_t *bytes = record_place(c, index);
     static const record plain[] = {
         { READ, 0x4C, 0, 0 }, { SEND, 0x4D, 2, 0 }, { RECEIVE, 0x0C, 0, 0 }, { OPEN_DIODE, 1, 0, 0 }, { POWER_ON, 0, 0, 0 }
     };
-    bool replaced = bytes[0] < WRITE || bytes[0] > POWER_ON || one_in(2);
+    bool replaced = bytes[0] < WRITE || bytes[0] > (c->devices == 2 ? OPEN_DIODE_2 : POWER_ON) || one_in(2);
     record r = replaced ? ONE_OF(plain) : record_at(bytes);
     break_one_operand(&r);
     put_record(bytes, r);
-    refuse_at(c, HEADER_BYTES + RECORD_BYTES * index + 3);
+    refuse_at(c, c->header + RECORD_BYTES * index + 3);
 }
 
 static void add_extra(capture *c)
@@ -1326,8 +1592,18 @@ static void cut_short(capture *c)
     refuse_at(c, c->length);
 }
 
-/* One damage of every sort in turn, 0 being none. */
-enum { DAMAGES = 8 };
+/* The second variant byte: none, or of the first's address. */
+static void damage_second_variant(capture *c, bool one_address)
+{
+    if (!one_address)
+        damage_header(c, 2);
+    else
+        c->bytes[2] = c->bytes[1] == 1 ? 1 : (uint8_t)(2 + below(2));
+    refuse_at(c, 2);
+}
+
+/* One damage of every sort in turn, 0 being none; the last two are of two devices. */
+enum { DAMAGES = 8, DAMAGES_2 = 10 };
 
 static void damage(capture *c, unsigned sort)
 {
@@ -1339,9 +1615,107 @@ static void damage(capture *c, unsigned sort)
     case 4: if (c->records > 0) damage_operand(c, index); break;
     case 5: add_extra(c); break;
     case 6: cut_short(c); break;
-    case 7: store(c->bytes + 2, (uint32_t)c->records + 1 + (one_in(2) ? 0 : chance() / 2), 4); break;
+    case 7: store(c->bytes + c->header - 4, (uint32_t)c->records + 1 + (one_in(2) ? 0 : chance() / 2), 4); break;
+    case 8: damage_second_variant(c, false); break;
+    case 9: damage_second_variant(c, true); break;
     default: break;
     }
+}
+
+/* ---- Captures of two devices -------------------------------------------- */
+
+static void begin_pair_capture(capture *c, const pair *p, size_t records)
+{
+    uint8_t variants[] = { p->one[0].variant, p->one[1].variant };
+    begin_capture(c, 2, variants, records);
+}
+
+static void make_pair_capture(capture *c, size_t records)
+{
+    pair p;
+    start_pair(&p, below(ORDERS));
+    begin_pair_capture(c, &p, records);
+    for (size_t i = 0; i < records; i++)
+        put_record(record_place(c, i), next_of_pair(&p));
+}
+
+static void make_capture_of(capture *c, unsigned devices, size_t records)
+{
+    if (devices == 2)
+        make_pair_capture(c, records);
+    else
+        make_capture(c, records);
+}
+
+/* A capture of what is planned for two devices. */
+static void put_pair_plan(capture *c, const pair *p)
+{
+    begin_pair_capture(c, p, p->planned);
+    for (size_t i = 0; i < p->planned; i++)
+        put_record(record_place(c, i), p->plan[i]);
+}
+
+static unsigned make_alert(capture *c, alert_row r)
+{
+    pair p;
+    start_pair(&p, r.order);
+    unsigned place = plan_alert(&p, r);
+    put_pair_plan(c, &p);
+    return place;
+}
+
+static stretch make_pair_row(capture *c, pair_row r)
+{
+    pair p;
+    start_pair(&p, r.order);
+    stretch between = plan_pair_row(&p, r);
+    put_pair_plan(c, &p);
+    return between;
+}
+
+/* In half of the rows the other device has an offset too. */
+static unsigned make_pair_sum(capture *c, pair_sum r)
+{
+    pair p;
+    start_pair(&p, r.order);
+    plan_mode(&p.one[r.of], r.own);
+    if (one_in(2))
+        plan_mode(&p.one[!r.of], (sum_row){ one_in(2), 0, LARGEST, 0 });
+    merge_plans(&p);
+    unsigned before = p.planned;
+    unsigned place = before + plan_pair_sum(&p, r);
+    put_pair_plan(c, &p);
+    return place;
+}
+
+static uint8_t address_of(uint8_t variant)
+{
+    return variant == 1 ? 0x4C : 0x4D;
+}
+
+static bool is_variant(uint8_t byte)
+{
+    return byte >= 1 && byte <= 3;
+}
+
+/* Where the header of two devices is refused, if it is. */
+static void judge_header(capture *c)
+{
+    uint8_t first = c->bytes[1];
+    uint8_t second = c->bytes[2];
+    if (!is_variant(second) || address_of(first) == address_of(second))
+        refuse_at(c, 2);
+    if (!is_variant(first))
+        refuse_at(c, 1);
+}
+
+/* Two random devices of an order, in a reader. */
+static void random_pair(uint8_t *dump, unsigned order)
+{
+    random_device(dump + AT_FIRST);
+    random_device(dump + AT_SECOND);
+    dump[AT_FIRST + AT_VARIANT] = orders[order][0];
+    dump[AT_SECOND + AT_VARIANT] = orders[order][1];
 }
 
 /* ---- The reader -------------------------------------------------------- */
@@ -1358,7 +1732,7 @@ static size_t taken(const capture *c, size_t from, size_t length, uint32_t room)
 {
     size_t at = from;
     while (at < from + length && at < c->refused) {
-        if (at >= HEADER_BYTES && (at - HEADER_BYTES) % RECORD_BYTES == 3) {
+        if (at >= c->header && (at - c->header) % RECORD_BYTES == 3) {
             if (room < 2)
                 break;
             room -= 2;
@@ -1429,16 +1803,21 @@ static void feed_cut_everywhere(const capture *c)
 }
 
 /* A row of request a, cut between its reads, then either in the record that reads 10 or without room for one of the two reads. */
+static void feed_stretch(const capture *c, stretch between)
+{
+    size_t reads_low = c->header + RECORD_BYTES * between.to;
+    feed_twice(c, cut_between(c, between), AMPLE_ROOM, AMPLE_ROOM);
+    switch (below(3)) {
+    case 0: feed_twice(c, reads_low + below(RECORD_BYTES), AMPLE_ROOM, AMPLE_ROOM); break;
+    case 1: feed_twice(c, c->length, 2 * between.to, AMPLE_ROOM); break;
+    default: feed_twice(c, c->length, 2 * (between.from - 1), AMPLE_ROOM); break;
+    }
+}
+
 static void feed_row(row r)
 {
     stretch between = make_row(&work, r);
-    size_t reads_low = HEADER_BYTES + RECORD_BYTES * between.to;
-    feed_twice(&work, cut_between(between), AMPLE_ROOM, AMPLE_ROOM);
-    switch (below(3)) {
-    case 0: feed_twice(&work, reads_low + below(RECORD_BYTES), AMPLE_ROOM, AMPLE_ROOM); break;
-    case 1: feed_twice(&work, work.length, 2 * between.to, AMPLE_ROOM); break;
-    default: feed_twice(&work, work.length, 2 * (between.from - 1), AMPLE_ROOM); break;
-    }
+    feed_stretch(&work, between);
 }
 
 /* A record without room, then another fourth byte in its place. */
@@ -1455,23 +1834,27 @@ static void feed_other_fourth(const capture *c)
     call_finish();
 }
 
-/* A reader with so many header bytes taken, this count and these records done. */
-static void plain_reader(uint8_t *dump, unsigned header, uint32_t count, uint32_t done)
+/* A reader under a device count with so many header bytes taken, this record count and these records done; its devices at power-on. */
+static void plain_reader(uint8_t *dump, unsigned devices, unsigned header, uint32_t count, uint32_t done)
 {
     memset(dump, 0, READER_BYTES);
     dump[AT_HEADER] = (uint8_t)header;
     store(dump + AT_COUNT, count, 4);
     store(dump + AT_DONE, done, 4);
+    if (header >= 1)
+        dump[AT_DEVICES] = (uint8_t)devices;
     if (header >= 2)
-        power_on_device(dump + AT_DEVICE, 1);
+        power_on_device(dump + AT_FIRST, 1);
+    if (header >= 3 && devices == 2)
+        power_on_device(dump + AT_SECOND, 2);
 }
 
 /* A capture of fewer than 256 records, to a reader with this device that has so many of the header's bytes, at least two. */
 static void feed_to(const uint8_t *device, const capture *c, unsigned header)
 {
     uint8_t dump[READER_BYTES];
-    plain_reader(dump, header, header == HEADER_BYTES ? (uint32_t)c->records : 0, 0);
-    memcpy(dump + AT_DEVICE, device, DEVICE_BYTES);
+    plain_reader(dump, 1, header, header == HEADER_BYTES ? (uint32_t)c->records : 0, 0);
+    memcpy(dump + AT_FIRST, device, DEVICE_BYTES);
     call_reader(dump);
     call_feed(c->bytes + header, c->length - header, AMPLE_ROOM);
 }
@@ -1487,15 +1870,21 @@ static void feed_row_to_any(row r)
     feed_to(device, &work, HEADER_BYTES);
 }
 
+/* A capture, cut at or in the record of this place, or without room for it. */
+static void feed_around(const capture *c, unsigned place)
+{
+    uint32_t room = 2 * (uint32_t)c->records;
+    if (one_in(2))
+        feed_twice(c, c->header + RECORD_BYTES * place + below(RECORD_BYTES), room, room);
+    else
+        feed_twice(c, c->length, 2 * place, room);
+}
+
 /* A row of request b, cut at or in its conversion, or without room for it. */
 static void feed_sum(sum_row r)
 {
     unsigned place = make_sum(&work, r);
-    uint32_t room = 2 * (uint32_t)work.records;
-    if (one_in(2))
-        feed_twice(&work, HEADER_BYTES + RECORD_BYTES * place + below(RECORD_BYTES), room, room);
-    else
-        feed_twice(&work, work.length, 2 * place, room);
+    feed_around(&work, place);
 }
 
 /* A row of request b, fed to a reader with a random device, in most cases with the end of the header. */
@@ -1517,41 +1906,166 @@ static void feed_sum_either_way(sum_row r)
         feed_sum(r);
 }
 
-/* A reader within its ranges, somewhere in a capture whose bytes stand in `work`. */
-static void random_reader(uint8_t *dump)
+static const uint8_t lasting_codes[] = { 0, 1, 2, 3, 4, 5, 9 }; /* and none */
+
+/* The part of a record count that so many of its bytes tell. */
+static uint32_t partial_count(uint32_t count, unsigned count_bytes)
 {
-    unsigned header = one_in(3) ? below(7) : HEADER_BYTES;
+    return count_bytes < 4 ? count & (0xFFFFFFu >> 8 * (3 - count_bytes)) : count;
+}
+
+/* Random devices, as many as so many header bytes have brought; before the first one's its variant may be any byte. */
+static void random_devices(uint8_t *dump, unsigned devices, unsigned header)
+{
+    dump[AT_DEVICES] = header > 0 ? (uint8_t)devices : 0;
+    random_device(dump + AT_FIRST);
+    if (header < 2 && one_in(2))
+        dump[AT_FIRST + AT_VARIANT] = any_byte();
+    if (devices == 2 && header >= 2)
+        random_pair(dump, below(ORDERS));
+    if (header < 3)
+        memset(dump + AT_SECOND, 0, DEVICE_BYTES);
+}
+
+/* A reader within its ranges, somewhere in a capture whose bytes stand in `work`. */
+static void random_reader(uint8_t *dump, unsigned devices)
+{
+    unsigned complete = 5 + devices;
+    unsigned header = one_in(3) ? below(complete + 1) : complete;
     uint32_t count = one_in(8) ? chance() : below(6);
-    make_capture(&work, 6);
+    make_capture_of(&work, devices, 6);
     damage(&work, one_in(3) ? 3 + below(4) : 0);
     memset(dump, 0, READER_BYTES);
     dump[AT_HEADER] = (uint8_t)header;
-    random_device(dump + AT_DEVICE);
-    if (header < 2 && one_in(2))
-        dump[AT_DEVICE + AT_VARIANT] = any_byte();
-    if (header > 2)
-        store(dump + AT_COUNT, header == HEADER_BYTES ? count : count & (0xFFFFFFu >> 8 * (5 - header)), 4);
-    if (header == HEADER_BYTES) {
+    random_devices(dump, devices, header);
+    if (header > 1 + devices)
+        store(dump + AT_COUNT, partial_count(count, header - 1 - devices), 4);
+    if (header == complete) {
         uint32_t left = count > 0 ? below(count < 5 ? count + 1 : 5) : 0;
         unsigned carried = left > 0 ? below(4) : 0;
         store(dump + AT_DONE, count - left, 4);
         dump[AT_CARRIED] = (uint8_t)carried;
-        memcpy(dump + AT_CARRY, work.bytes + HEADER_BYTES, carried);
+        memcpy(dump + AT_CARRY, work.bytes + complete, carried);
     }
     if (one_in(10))
-        dump[AT_HELD] = (uint8_t)below(6);
+        dump[AT_HELD] = ONE_OF(lasting_codes);
 }
 
-static void feed_random_reader(void)
+static void feed_random_reader(unsigned devices)
 {
     uint8_t dump[READER_BYTES];
-    random_reader(dump);
+    random_reader(dump, devices);
     size_t from = (size_t)dump[AT_HEADER] + dump[AT_CARRIED];
     size_t length = from < work.length ? below(work.length - from + 1) : 0;
     call_reader(dump);
     call_feed(work.bytes + from, length, any_room());
     if (one_in(2))
         call_finish();
+}
+
+/* Both devices at alert responses, cut at or in the first of them, or without room for it; then cut anywhere. */
+static void feed_alert(alert_row r)
+{
+    unsigned place = make_alert(&work, r);
+    feed_around(&work, place);
+    feed_in_parts(&work, 60);
+}
+
+static void feed_pair_row(pair_row r)
+{
+    stretch between = make_pair_row(&work, r);
+    feed_stretch(&work, between);
+}
+
+static void feed_pair_sum(pair_sum r)
+{
+    unsigned place = make_pair_sum(&work, r);
+    feed_around(&work, place);
+}
+
+/* Headers of two devices: the variants that are some, and others, in every pair, cut at every place. */
+static void feed_every_header(void)
+{
+    static const uint8_t variants[] = { 0, 1, 2, 3, 4, 5, 255 };
+    for (size_t i = 0; i < COUNT_OF(variants); i++)
+        for (size_t j = 0; j < COUNT_OF(variants); j++) {
+            uint8_t two[] = { variants[i], variants[j] };
+            begin_capture(&work, 2, two, 1);
+            put_record(record_place(&work, 0), (record){ CONVERSION_2, 0x20, 0x40, LOW_STEP });
+            judge_header(&work);
+            feed_cut_everywhere(&work);
+        }
+}
+
+/* Kinds 00 to 0A under a device count, right, with each operand broken and with all, each as a capture. */
+static void every_judgement(unsigned devices, void (*take)(void))
+{
+    static const uint8_t variants[] = { 1, 2 };
+    for (unsigned kind = 0; kind <= OPEN_DIODE_2 + 1; kind++)
+        for (unsigned broken = 0; broken < 5; broken++) {
+            record r = plain_record((uint8_t)kind);
+            if (broken == 4)
+                r.a = r.b = r.c = 0xFF;
+            else if (broken > 0 && kind >= WRITE && kind <= OPEN_DIODE_2 && !break_operand(&r, broken - 1))
+                continue;
+            begin_capture(&work, devices, variants, 1);
+            put_record(record_place(&work, 0), r);
+            take();
+        }
+}
+
+static void feed_judged(void)
+{
+    for (uint32_t room = 0; room < 3; room++) {
+        call_fresh();
+        call_feed(work.bytes, work.length, room);
+        call_finish();
+    }
+}
+
+static void run_judged(void)
+{
+    for (uint32_t room = 0; room < 3; room++)
+        call_run(work.bytes, work.length, room);
+}
+
+/* A capture of two devices in all of its rooms: each record without room for it, then fed again. */
+static void feed_in_every_room(const capture *c)
+{
+    for (uint32_t room = 0; room <= 2 * c->records + 1; room++)
+        feed_twice(c, c->length, room, AMPLE_ROOM);
+}
+
+static void feed_pairs(void)
+{
+    for (unsigned i = 0; i < 80; i++) {
+        make_pair_capture(&work, i % 5);
+        damage(&work, i / 5 % DAMAGES_2);
+        feed_cut_everywhere(&work);
+    }
+    for (unsigned i = 0; i < 1000; i++) {
+        make_pair_capture(&work, below(12));
+        damage(&work, one_in(2) ? below(DAMAGES_2) : 0);
+        if (one_in(6))
+            damage(&work, 3 + below(2));
+        feed_in_parts(&work, one_in(3) ? 1 : one_in(2) ? 5 : 60);
+    }
+    for (unsigned i = 0; i < 200; i++) {
+        make_pair_capture(&work, 1 + below(4));
+        feed_other_fourth(&work);
+    }
+    for (unsigned i = 0; i < 40; i++) {
+        make_pair_capture(&work, 6);
+        feed_in_every_room(&work);
+    }
+    for (unsigned i = 0; i < 4000; i++)
+        feed_random_reader(2);
+    feed_every_header();
+    every_judgement(1, feed_judged);
+    every_judgement(2, feed_judged);
+    every_alert(feed_alert);
+    every_pair_row(feed_pair_row);
+    every_pair_sum(feed_pair_sum);
 }
 
 static void theme_reader(void)
@@ -1573,91 +2087,377 @@ static void theme_reader(void)
         feed_other_fourth(&work);
     }
     for (unsigned i = 0; i < 12000; i++)
-        feed_random_reader();
+        feed_random_reader(1);
     every_row(feed_row);
     every_row(feed_row_to_any);
     every_sum(feed_sum_either_way);
+    feed_pairs();
+}
+
+/* ---- Two devices, record by record ---------------------------------------- */
+
+static void feed_record(record r)
+{
+    uint8_t bytes[RECORD_BYTES];
+    put_record(bytes, r);
+    call_feed(bytes, sizeof bytes, 2);
+}
+
+static void feed_plan(pair *p)
+{
+    while (p->played < p->planned)
+        feed_record(p->plan[p->played++]);
+}
+
+/* A reader behind its header, with two random devices of an order. */
+static void any_pair(uint8_t *dump, unsigned order)
+{
+    plain_reader(dump, 2, HEADER_2_BYTES, 0xFFFFFFFFu, below(1000));
+    random_pair(dump, order);
+}
+
+static void set_pair(pair *p, const uint8_t *dump)
+{
+    memset(p, 0, sizeof *p);
+    aim_at(&p->one[0], dump + AT_FIRST);
+    aim_at(&p->one[1], dump + AT_SECOND);
+    p->one[1].second = true;
+    call_reader(dump);
+}
+
+/* Any record that is right, of any kind and at any address. */
+static record any_right_record(void)
+{
+    static const uint8_t addresses[] = { 0x4C, 0x4D, 0x0C, 0x00, 0x4E, 0x4B, 0x7F };
+    record r = plain_record((uint8_t)(WRITE + below(OPEN_DIODE_2)));
+    if (r.kind <= RECEIVE)
+        r.a = ONE_OF(addresses);
+    if (r.kind <= SEND)
+        r.b = any_register();
+    return r;
+}
+
+static void feed_from_header(unsigned order)
+{
+    uint8_t header[HEADER_2_BYTES] = { 2, orders[order][0], orders[order][1], 0xFF, 0, 0, 0 };
+    pair p;
+    start_pair(&p, order);
+    call_fresh();
+    call_feed(header, sizeof header, 0);
+    for (unsigned i = 0; i < 100; i++)
+        feed_record(next_of_pair(&p));
+}
+
+static void feed_from_any_pair(void)
+{
+    uint8_t dump[READER_BYTES];
+    pair p;
+    any_pair(dump, below(ORDERS));
+    set_pair(&p, dump);
+    for (unsigned records = 1 + below(4); records > 0; records--)
+        feed_record(one_in(4) ? any_right_record() : next_of_pair(&p));
+}
+
+/* Makes a device stand so. */
+static void stand(uint8_t *device, unsigned standing)
+{
+    static const uint8_t alerting[] = { 0x40, 0x20, 0x10, 0x08, 0x02, 0x01, 0x7B, 0x7F };
+    uint8_t *set = device + AT_SETTINGS;
+    set[CONFIGURATION] &= (uint8_t)~ALERT_MASK;
+    set[ALERT_MODE] &= (uint8_t)~COMPARATOR;
+    if (standing == MASKED_OUT)
+        set[CONFIGURATION] |= ALERT_MASK;
+    if (comparing(standing))
+        set[ALERT_MODE] |= COMPARATOR;
+    device[AT_STATUS] = ONE_OF(alerting);
+    if (standing == QUIET)
+        device[AT_STATUS] = one_in(2) ? 0x04 : 0;
+    if (standing == COMPARING)
+        device[AT_LIVE] = ONE_OF(alerting);
+    if (standing == COMPARING_QUIET)
+        device[AT_LIVE] &= 0x04;
+}
+
+/* Alert responses, then any record or a mask that is cleared, and one more. */
+static void feed_alerts(alert_row r)
+{
+    uint8_t dump[READER_BYTES];
+    pair p;
+    any_pair(dump, r.order);
+    stand(dump + AT_FIRST, r.standing[0]);
+    stand(dump + AT_SECOND, r.standing[1]);
+    set_pair(&p, dump);
+    plan_alert_responses(&p, 1 + below(3));
+    bench *b = &p.one[below(2)];
+    if (one_in(2))
+        plan_set(b, CONFIGURATION, b->set[CONFIGURATION] & (uint8_t)~ALERT_MASK);
+    merge_plans(&p);
+    if (one_in(4))
+        plan_on_pair(&p, any_right_record());
+    plan_alert_responses(&p, 1);
+    feed_plan(&p);
+}
+
+/* Makes a device pull these lines and no other; T_CRIT_A by either latch or both. */
+static void pull(uint8_t *device, bool alert, bool crit)
+{
+    stand(device, alert ? (one_in(2) ? ANSWERING : COMPARING) : (unsigned)(QUIET + below(2)));
+    unsigned latches = crit ? 1 + below(3) : 0;
+    device[AT_LOCAL_LATCH] = latches & 1;
+    device[AT_REMOTE_LATCH] = latches >> 1;
+    device[AT_SETTINGS + CONFIGURATION] &= 0xEB;
+}
+
+/* Every set of lines pulled by each device, and records that name the first, the second, neither or both. */
+static void feed_lines(unsigned lines)
+{
+    uint8_t dump[READER_BYTES];
+    pair p;
+    any_pair(dump, below(ORDERS));
+    pull(dump + AT_FIRST, lines & 1, lines & 2);
+    pull(dump + AT_SECOND, lines & 4, lines & 8);
+    static const record records[] = {
+        { READ, 0x4C, 0xFE, 0 }, { READ, 0x4D, 0xFE, 0 }, { READ, 0x4E, 0xFE, 0 }, { RECEIVE, 0x00, 0, 0 }, { WRITE, 0x0C, 0x19, 5 },
+        { SEND, 0x4C, 0x30, 0 }, { SEND, 0x4D, 0x30, 0 }, { READ, 0x4C, STATUS, 0 }, { READ, 0x4D, STATUS, 0 }, { POWER_ON, 0, 0, 0 },
+        { OPEN_DIODE, 20, 0, 0 }, { OPEN_DIODE_2, 20, 0, 0 }, { CONVERSION, 20, 20, 0 }, { CONVERSION_2, 20, 20, 0 }
+    };
+    for (size_t i = 0; i < COUNT_OF(records); i++) {
+        set_pair(&p, dump);
+        feed_record(records[i]);
+    }
+}
+
+/* How a device finds a conversion: awake, in standby with a one-shot asked for, and without. */
+enum { AWAKE, WAITING, SLEEPING, MODES };
+
+static void set_mode(uint8_t *device, unsigned mode)
+{
+    device[AT_SETTINGS + CONFIGURATION] &= (uint8_t)~STANDBY;
+    if (mode != AWAKE)
+        device[AT_SETTINGS + CONFIGURATION] |= STANDBY;
+    device[AT_PENDING] = mode == WAITING;
+}
+
+static void feed_modes(unsigned first, unsigned second)
+{
+    static const uint8_t kinds[] = { CONVERSION, OPEN_DIODE, CONVERSION_2, OPEN_DIODE_2 };
+    uint8_t dump[READER_BYTES];
+    pair p;
+    any_pair(dump, below(ORDERS));
+    set_mode(dump + AT_FIRST, first);
+    set_mode(dump + AT_SECOND, second);
+    for (size_t i = 0; i < COUNT_OF(kinds); i++) {
+        set_pair(&p, dump);
+        feed_record(plain_record(kinds[i]));
+        feed_record(plain_record(ONE_OF(kinds)));
+        feed_record(plain_record(kinds[i]));
+    }
+}
+
+static void feed_row_of_pair(pair_row r)
+{
+    uint8_t dump[READER_BYTES];
+    pair p;
+    any_pair(dump, r.order);
+    set_pair(&p, dump);
+    plan_pair_row(&p, r);
+    feed_plan(&p);
+}
+
+/* The offsets of both lie at opposite ends, at one end, or the other's anywhere. */
+static void feed_sum_of_pair(pair_sum r)
+{
+    uint8_t dump[READER_BYTES];
+    pair p;
+    unsigned own = r.of ? AT_SECOND : AT_FIRST;
+    unsigned other = r.of ? AT_FIRST : AT_SECOND;
+    any_pair(dump, r.order);
+    device_for_sum(dump + own, r.own);
+    dump[own + AT_VARIANT] = orders[r.order][r.of];
+    if (one_in(2))
+        set_offset(dump + other + AT_SETTINGS, (sum_row){ one_in(2) ? r.own.upper : !r.own.upper, 0, LARGEST, 0 });
+    set_pair(&p, dump);
+    plan_pair_sum(&p, r);
+    feed_plan(&p);
+}
+
+/* Every register at each device's address, by every kind on the bus. */
+static void feed_registers(unsigned order)
+{
+    uint8_t dump[READER_BYTES];
+    pair p;
+    any_pair(dump, order);
+    for (unsigned number = 0; number < 256; number++) {
+        if (number % 16 == 0) {
+            any_pair(dump, order);
+            set_pair(&p, dump);
+        }
+        uint8_t kind = (uint8_t)(WRITE + below(3));
+        uint8_t address = 0x4C + (uint8_t)below(2);
+        feed_record(bus_record(kind, address, (uint8_t)number, any_byte()));
+        feed_record((record){ RECEIVE, address ^ (uint8_t)below(2), 0, 0 });
+    }
+}
+
+static void theme_pair(void)
+{
+    for (unsigned i = 0; i < 6 * ORDERS; i++)
+        feed_from_header(i % ORDERS);
+    for (unsigned i = 0; i < 6000; i++)
+        feed_from_any_pair();
+    for (unsigned round = 0; round < 6; round++)
+        every_alert(feed_alerts);
+    for (unsigned i = 0; i < 20 * ORDERS; i++)
+        feed_alerts((alert_row){ i % ORDERS, { ANSWERING, ANSWERING } });
+    for (unsigned i = 0; i < 4 * 16; i++)
+        feed_lines(i % 16);
+    for (unsigned i = 0; i < 8 * MODES * MODES; i++)
+        feed_modes(i % MODES, i / MODES % MODES);
+    every_pair_row(feed_row_of_pair);
+    for (unsigned round = 0; round < 2; round++)
+        every_pair_sum(feed_sum_of_pair);
+    for (unsigned order = 0; order < ORDERS; order++)
+        feed_registers(order);
 }
 
 /* ---- Ranges of a reader ------------------------------------------------- */
 
 static void try_reader(const uint8_t *dump)
 {
-    static const uint8_t bytes[] = { 1, 1, 0, 0, 0, 2, READ, 0x4C, 0xFF, 0, RECEIVE, 0x4D, 0, 0 };
-    size_t from = one_in(2) ? HEADER_BYTES : 0;
+    static const uint8_t one[] = { 1, 1, 0, 0, 0, 2, READ, 0x4C, 0xFF, 0, RECEIVE, 0x4D, 0, 0 };
+    static const uint8_t two[] = { 2, 1, 2, 0, 0, 0, 2, READ, 0x4D, 0xFF, 0, CONVERSION_2, 0x20, 0x40, 0 };
+    bool both = dump[AT_DEVICES] == 2;
+    const uint8_t *bytes = both ? two : one;
+    size_t length = both ? sizeof two : sizeof one;
+    size_t from = one_in(2) ? (both ? HEADER_2_BYTES : HEADER_BYTES) : 0;
     call_reader(dump);
     call_finish();
     call_feed(NULL, 0, 3);
-    call_feed(bytes + from, sizeof bytes - from, 4);
+    call_feed(bytes + from, length - from, 4);
     call_finish();
 }
 
 static uint8_t framed[READER_BYTES];
+static unsigned framed_at; /* where in it the device stands that is tried */
 
 static void try_framed(const uint8_t *device)
 {
-    memcpy(framed + AT_DEVICE, device, DEVICE_BYTES);
+    uint8_t kept[DEVICE_BYTES];
+    memcpy(kept, framed + framed_at, DEVICE_BYTES);
+    memcpy(framed + framed_at, device, DEVICE_BYTES);
     try_reader(framed);
+    memcpy(framed + framed_at, kept, DEVICE_BYTES);
 }
 
-static void header_edges(unsigned header)
+static const uint8_t variant_edges[] = { 0, 1, 2, 3, 4, 255 };
+
+/* The first variant; where there is a second, it is of another address if the first is one. */
+static void first_variant_edges(unsigned devices, unsigned header)
 {
-    static const uint8_t variants[] = { 0, 1, 2, 3, 4, 255 };
-    static const uint8_t helds[] = { 0, 1, 2, 3, 4, 5, 6, 7, 255 };
     uint8_t dump[READER_BYTES];
-    plain_reader(dump, header, 0, 0);
-    power_on_device(dump + AT_DEVICE, 3);
-    try_reader(dump);
+    for (size_t i = 0; i < COUNT_OF(variant_edges); i++) {
+        plain_reader(dump, devices, header, 0, 0);
+        power_on_device(dump + AT_FIRST, 3);
+        dump[AT_FIRST + AT_VARIANT] = variant_edges[i];
+        if (devices == 2 && header >= 3)
+            power_on_device(dump + AT_SECOND, variant_edges[i] == 1 ? 2 : 1);
+        try_reader(dump);
+    }
+}
+
+static void header_edges(unsigned devices, unsigned header)
+{
+    static const uint8_t helds[] = { 0, 1, 2, 3, 4, 5, 6, 7, 8, 9, 10, 0x10, 255 };
+    uint8_t dump[READER_BYTES];
+    plain_reader(dump, devices, header, 0, 0);
     for (size_t i = 0; i < COUNT_OF(helds); i++) {
         dump[AT_HELD] = helds[i];
         try_reader(dump);
     }
-    dump[AT_HELD] = 0;
-    for (size_t i = 0; i < COUNT_OF(variants); i++) {
-        dump[AT_DEVICE + AT_VARIANT] = variants[i];
-        try_reader(dump);
-    }
+    first_variant_edges(devices, header);
 }
 
-static void count_edges(unsigned header)
+/* Any device count with so many header bytes: of a reader that is in range with none, with 1 or with 2. */
+static void devices_edges(unsigned header)
 {
-    uint32_t past = header > 2 ? (uint32_t)1 << 8 * (header - 2) : 1;
+    static const uint8_t counts[] = { 0, 1, 2, 3, 4, 128, 255 };
+    uint8_t dump[READER_BYTES];
+    for (unsigned devices = 1; devices <= 2; devices++)
+        for (size_t i = 0; i < COUNT_OF(counts); i++) {
+            plain_reader(dump, devices, header, 0, 0);
+            dump[AT_DEVICES] = counts[i];
+            try_reader(dump);
+        }
+}
+
+/* Every byte of a second device that is not there, not 0. */
+static void absent_edges(unsigned devices, unsigned header)
+{
+    static const uint8_t values[] = { 1, 2, 0x80 };
+    uint8_t dump[READER_BYTES];
+    for (unsigned place = AT_SECOND; place < READER_BYTES; place++) {
+        plain_reader(dump, devices, header, 0, 0);
+        dump[place] = ONE_OF(values);
+        try_reader(dump);
+    }
+    plain_reader(dump, devices, header, 0, 0);
+    power_on_device(dump + AT_SECOND, 2);
+    try_reader(dump);
+}
+
+/* Every pair of variants. */
+static void second_variant_edges(unsigned header)
+{
+    uint8_t dump[READER_BYTES];
+    for (unsigned first = 0; first <= 4; first++)
+        for (size_t i = 0; i < COUNT_OF(variant_edges); i++) {
+            plain_reader(dump, 2, header, 0, 0);
+            dump[AT_FIRST + AT_VARIANT] = (uint8_t)first;
+            dump[AT_SECOND + AT_VARIANT] = variant_edges[i];
+            try_reader(dump);
+        }
+}
+
+static void count_edges(unsigned devices, unsigned header)
+{
+    unsigned count_bytes = header > 1 + devices ? header - 1 - devices : 0;
+    uint32_t past = (uint32_t)1 << 8 * count_bytes;
     uint32_t counts[] = { past - 1, past, past + 1, 0x80000000u, 0xFFFFFFFFu };
     uint8_t dump[READER_BYTES];
     for (size_t i = 0; i < COUNT_OF(counts); i++) {
-        plain_reader(dump, header, counts[i], 0);
+        plain_reader(dump, devices, header, counts[i], 0);
         try_reader(dump);
     }
-    plain_reader(dump, header, header > 2 ? 9 : 0, 1);
+    plain_reader(dump, devices, header, count_bytes > 0 ? 9 : 0, 1);
     try_reader(dump);
     for (unsigned carried = 1; carried <= 4; carried++) {
-        plain_reader(dump, header, 0, 0);
+        plain_reader(dump, devices, header, 0, 0);
         dump[AT_CARRIED] = (uint8_t)carried;
         try_reader(dump);
     }
 }
 
-static void done_edges(void)
+static void done_edges(unsigned devices)
 {
     static const uint32_t counts[] = { 0, 1, 2, 255, 256, 65536, 0x01000000, 0x80000000u, 0xFFFFFFFEu, 0xFFFFFFFFu };
     uint8_t dump[READER_BYTES];
     for (size_t i = 0; i < COUNT_OF(counts); i++) {
         uint32_t dones[] = { 0, counts[i] - 1, counts[i], counts[i] + 1, 0xFFFFFFFFu };
         for (size_t j = 0; j < COUNT_OF(dones); j++) {
-            plain_reader(dump, HEADER_BYTES, counts[i], dones[j]);
+            plain_reader(dump, devices, 5 + devices, counts[i], dones[j]);
             try_reader(dump);
         }
     }
 }
 
 /* Every number of carried bytes, with every set of places in use. */
-static void carry_edges(uint32_t count, uint32_t done)
+static void carry_edges(unsigned devices, uint32_t count, uint32_t done)
 {
     static const uint8_t carrieds[] = { 0, 1, 2, 3, 4, 255 };
     uint8_t dump[READER_BYTES];
     for (size_t i = 0; i < COUNT_OF(carrieds); i++)
         for (unsigned used = 0; used < 8; used++) {
-            plain_reader(dump, HEADER_BYTES, count, done);
+            plain_reader(dump, devices, 5 + devices, count, done);
             dump[AT_CARRIED] = carrieds[i];
             dump[AT_CARRY] = used & 1 ? SEND : 0;
             dump[AT_CARRY + 1] = used & 2 ? 0x4C : 0;
@@ -1666,26 +2466,93 @@ static void carry_edges(uint32_t count, uint32_t done)
         }
 }
 
+/* A reader for devices that are tried, its record count 5 once it is complete. */
+static void frame(unsigned devices, unsigned header)
+{
+    plain_reader(framed, devices, header, 0, 0);
+    if (header == 5 + devices)
+        plain_reader(framed, devices, header, 5, 2);
+}
+
+/* One field after the other past its range, once: of a device whose fields are all at power-on. */
+static void device_outside(uint8_t variant, device_taker take)
+{
+    static const struct {
+        unsigned place;
+        uint8_t value;
+    } past[] = {
+        { AT_POINTER, 0x15 }, { AT_PENDING, 1 }, { AT_STATUS, 0x80 }, { AT_REMOTE, 0x04 }, { AT_REMOTE, 0xFB }, { AT_LIVE, 0x80 },
+        { AT_FAULTS, 4 }, { AT_LOW, LOW_STEP }, { AT_SETTINGS + CONFIGURATION, 0x20 }, { AT_SETTINGS + OFFSET_FINE, 0x10 },
+        { AT_SETTINGS + REMOTE_HIGH_FINE, 0x10 }, { AT_SETTINGS + REMOTE_LOW_FINE, 1 }, { AT_SETTINGS + HYSTERESIS, 0x20 },
+        { AT_SETTINGS + ALERT_MODE, 8 }
+    };
+    uint8_t device[DEVICE_BYTES];
+    power_on_device(device, variant);
+    for (size_t i = 0; i < COUNT_OF(past); i++)
+        with_byte(device, past[i].place, past[i].value, take);
+    device[AT_LOW_KEPT] = 1;
+    with_byte(device, AT_LOW, 1, take);
+}
+
+/* Each field of each device past its range, with so many header bytes. */
+static void outside_at(unsigned devices, unsigned header)
+{
+    frame(devices, header);
+    framed_at = AT_FIRST;
+    device_outside(1, try_framed);
+    framed_at = AT_SECOND;
+    if (devices == 2 && header >= 3)
+        device_outside(2, try_framed);
+}
+
+/* Both devices of a reader of two, each beside a random one. */
+static void pair_edges(unsigned header)
+{
+    uint8_t dump[READER_BYTES];
+    random_pair(dump, below(ORDERS));
+    frame(2, header);
+    memcpy(framed + AT_FIRST, dump + AT_FIRST, READER_BYTES - AT_FIRST);
+    for (framed_at = AT_FIRST; framed_at <= AT_SECOND; framed_at += DEVICE_BYTES) {
+        device_edges(dump + framed_at, try_framed);
+        if (header == HEADER_2_BYTES)
+            every_low(dump + framed_at, try_framed);
+    }
+}
+
 static void theme_reader_ranges(void)
 {
     uint8_t device[DEVICE_BYTES];
-    for (unsigned header = 0; header <= 8; header++)
-        header_edges(header);
-    header_edges(255);
-    for (unsigned header = 0; header < HEADER_BYTES; header++)
-        count_edges(header);
-    done_edges();
-    carry_edges(3, 1);
-    carry_edges(3, 3);
-    carry_edges(0xFFFFFFFFu, 0xFFFFFFFEu);
+    for (unsigned devices = 1; devices <= 2; devices++) {
+        for (unsigned header = 0; header <= 8; header++)
+            header_edges(devices, header);
+        header_edges(devices, 255);
+        for (unsigned header = 0; header < 5 + devices; header++)
+            count_edges(devices, header);
+        done_edges(devices);
+        carry_edges(devices, 3, 1);
+        carry_edges(devices, 3, 3);
+        carry_edges(devices, 0xFFFFFFFFu, 0xFFFFFFFEu);
+    }
+    framed_at = AT_FIRST;
     for (unsigned header = 0; header <= HEADER_BYTES; header += 2) {
-        plain_reader(framed, header, 0, 0);
-        if (header == HEADER_BYTES)
-            plain_reader(framed, header, 5, 2);
+        frame(1, header);
         random_device(device);
         device_edges(device, try_framed);
     }
     every_low(device, try_framed);
+    for (unsigned header = 0; header <= 8; header++)
+        devices_edges(header);
+    for (unsigned header = 0; header <= HEADER_BYTES; header++)
+        absent_edges(1, header);
+    absent_edges(2, 1);
+    absent_edges(2, 2);
+    for (unsigned header = 3; header <= HEADER_2_BYTES; header++)
+        second_variant_edges(header);
+    for (unsigned devices = 1; devices <= 2; devices++)
+        for (unsigned header = 0; header <= 5 + devices; header++)
+            outside_at(devices, header);
+    pair_edges(3);
+    pair_edges(HEADER_2_BYTES);
 }
 
 /* ---- The writers and the decoder ---------------------------------------- */
@@ -1695,10 +2562,47 @@ static void write_in_any_room(record r)
     call_write_event(r, any_room());
 }
 
+static void decode_under_1(record r)
+{
+    call_decode(1, r);
+}
+
+static void decode_under_2(record r)
+{
+    call_decode(2, r);
+}
+
+/* Every device count, with each kind from 00 to 0A. */
+static void decode_under_every_count(void)
+{
+    for (unsigned devices = 0; devices < 256; devices++)
+        for (unsigned kind = 0; kind <= OPEN_DIODE_2 + 1; kind++)
+            if (kind >= POWER_ON || one_in(4))
+                call_decode(devices, plain_record((uint8_t)kind));
+}
+
+/* Headers of two variants: all small ones, and others, in every room up to 9 and a large one. */
+static void write_headers_of_two(const uint32_t *counts, size_t many)
+{
+    static const uint8_t variants[] = { 0, 1, 2, 3, 4, 5, 6, 128, 255 };
+    for (size_t first = 0; first < COUNT_OF(variants); first++)
+        for (size_t second = 0; second < COUNT_OF(variants); second++)
+            for (uint32_t room = 0; room < 11; room++) {
+                uint32_t count = one_in(2) ? counts[below(many)] : chance();
+                call_write_header_2(variants[first], variants[second], count, room == 10 ? 300 : room);
+            }
+    for (unsigned byte = 0; byte < 256; byte++) {
+        call_write_header_2((uint8_t)byte, 1, byte, 7);
+        call_write_header_2(1, (uint8_t)byte, byte, 7);
+        call_write_header_2(2, (uint8_t)byte, byte, 7);
+        call_write_header_2(3, (uint8_t)byte, byte, 7);
+    }
+}
+
 /* Records of every kind, right and with each operand broken alone, and kinds that are none. */
 static void write_in_room(uint32_t room)
 {
-    for (unsigned kind = WRITE; kind <= POWER_ON; kind++) {
+    for (unsigned kind = WRITE; kind <= OPEN_DIODE_2; kind++) {
         call_write_event(plain_record((uint8_t)kind), room);
         for (unsigned operand = 0; operand < 3; operand++) {
             record r = plain_record((uint8_t)kind);
@@ -1706,28 +2610,31 @@ static void write_in_room(uint32_t room)
                 call_write_event(r, room);
         }
     }
-    for (size_t i = 0; i < COUNT_OF(unknown_kinds); i++) {
-        call_write_event((record){ unknown_kinds[i], 0, 0, 0 }, room);
-        call_write_event((record){ unknown_kinds[i], 0xFF, 0xFF, 0xFF }, room);
+    for (size_t i = 0; i < COUNT_OF(unknown_kinds_2); i++) {
+        call_write_event((record){ unknown_kinds_2[i], 0, 0, 0 }, room);
+        call_write_event((record){ unknown_kinds_2[i], 0xFF, 0xFF, 0xFF }, room);
     }
 }
 
 static void theme_writer(void)
 {
     static const uint32_t counts[] = { 0, 1, 255, 256, 65535, 65536, 0xFFFFFF, 0x1000000, 0x12345678, 0xFFFFFFFFu };
-    every_kind(call_decode);
+    every_kind(decode_under_1);
+    every_kind(decode_under_2);
     every_kind(write_in_any_room);
     for (uint32_t room = 0; room < 9; room++)
         write_in_room(room == 8 ? 300 : room);
     for (unsigned i = 0; i < 4000; i++) {
-        record r = { (uint8_t)(1 + below(7)), 0, 0, 0 };
+        record r = { (uint8_t)(1 + below(OPEN_DIODE_2)), 0, 0, 0 };
         any_bytes(&r);
-        call_decode(r);
+        call_decode(1 + below(2), r);
         call_write_event(r, any_room());
     }
     for (unsigned variant = 0; variant < 256; variant++)
         for (uint32_t room = 0; room < 9; room++)
             call_write_header((uint8_t)variant, one_in(2) ? ONE_OF(counts) : chance(), room == 8 ? 300 : room);
+    decode_under_every_count();
+    write_headers_of_two(counts, COUNT_OF(counts));
 }
 
 /* ---- Whole captures ------------------------------------------------------ */
@@ -1737,7 +2644,7 @@ static void run_row(row r)
 {
     stretch between = make_row(&work, r);
     if (one_in(4))
-        work.length = cut_between(between);
+        work.length = cut_between(&work, between);
     call_run(work.bytes, work.length, 2 * (uint32_t)work.records);
 }
 
@@ -1746,6 +2653,75 @@ static void run_sum(sum_row r)
 {
     make_sum(&work, r);
     call_run(work.bytes, work.length, 2 * (uint32_t)work.records);
+}
+
+static void run_alert(alert_row r)
+{
+    make_alert(&work, r);
+    call_run(work.bytes, work.length, 2 * (uint32_t)work.records);
+}
+
+static void run_pair_row(pair_row r)
+{
+    stretch between = make_pair_row(&work, r);
+    if (one_in(8))
+        work.length = cut_between(&work, between);
+    call_run(work.bytes, work.length, 2 * (uint32_t)work.records);
+}
+
+static void run_pair_sum(pair_sum r)
+{
+    make_pair_sum(&work, r);
+    call_run(work.bytes, work.length, 2 * (uint32_t)work.records);
+}
+
+/* Every byte in the place of the device count, of the one variant and of either of two. */
+static void run_every_header(void)
+{
+    static const uint8_t one[] = { 1, 1, 0, 0, 0, 0 };
+    static const uint8_t two[][HEADER_2_BYTES] = { { 2, 1, 2 }, { 2, 2, 1 }, { 2, 3, 1 } };
+    uint8_t header[HEADER_2_BYTES];
+    for (unsigned byte = 0; byte < 256; byte++) {
+        for (unsigned place = 0; place < 2; place++) {
+            memcpy(header, one, sizeof one);
+            header[place] = (uint8_t)byte;
+            call_run(header, sizeof one, 0);
+        }
+        for (size_t i = 0; i < COUNT_OF(two); i++)
+            for (unsigned place = 1; place <= 2; place++) {
+                memcpy(header, two[i], sizeof header);
+                header[place] = (uint8_t)byte;
+                call_run(header, sizeof header, 0);
+            }
+    }
+}
+
+static void run_pairs(void)
+{
+    for (unsigned i = 0; i < 2000; i++) {
+        make_pair_capture(&work, below(9));
+        damage(&work, one_in(3) ? below(DAMAGES_2) : i % DAMAGES_2);
+        if (one_in(6))
+            damage(&work, 3 + below(2));
+        call_run(work.bytes, work.length, any_room());
+    }
+    for (unsigned i = 0; i < 200; i++) {
+        make_pair_capture(&work, 2000 + below(2000));
+        damage(&work, one_in(10) ? below(DAMAGES_2) : 0);
+        uint32_t room = 2 * (uint32_t)work.records;
+        call_run(work.bytes, work.length, one_in(8) ? room - 1 - below(9) : room + below(3));
+    }
+    for (unsigned i = 0; i < 200; i++) {
+        make_pair_capture(&work, 60 + below(40));
+        call_run(work.bytes, work.length, 2 * (uint32_t)work.records);
+    }
+    run_every_header();
+    every_judgement(1, run_judged);
+    every_judgement(2, run_judged);
+    every_alert(run_alert);
+    for (unsigned round = 0; round < 2; round++)
+        every_pair_row(run_pair_row);
+    every_pair_sum(run_pair_sum);
 }
 
 static void theme_runs(void)
@@ -1770,6 +2746,7 @@ static void theme_runs(void)
     for (unsigned round = 0; round < 2; round++)
         every_row(run_row);
     every_sum(run_sum);
+    run_pairs();
 }
 
 /* One row of request a for each sort of event between its reads. */
@@ -1788,6 +2765,23 @@ static void run_some_sums(void)
     }
 }
 
+/* Captures of two devices: damaged, long, and with alert responses. */
+static void run_some_pairs(void)
+{
+    for (unsigned i = 0; i < 2 * DAMAGES_2; i++) {
+        make_pair_capture(&work, below(40));
+        damage(&work, i % DAMAGES_2);
+        call_run(work.bytes, work.length, 2 * (uint32_t)work.records);
+    }
+    make_pair_capture(&work, 5000);
+    call_run(work.bytes, work.length, 10000);
+    for (unsigned order = 0; order < ORDERS; order++) {
+        run_alert((alert_row){ order, { ANSWERING, ANSWERING } });
+        run_alert((alert_row){ order, { ANSWERING, COMPARING } });
+        run_alert((alert_row){ order, { QUIET, ANSWERING } });
+    }
+}
+
 static void theme_listed(void)
 {
     for (unsigned i = 0; i < 6 * DAMAGES; i++) {
@@ -1799,6 +2793,7 @@ static void theme_listed(void)
     call_run(work.bytes, work.length, 40000);
     run_some_rows();
     run_some_sums();
+    run_some_pairs();
 }
 
 int main(int argc, char **argv)
@@ -1809,7 +2804,7 @@ int main(int argc, char **argv)
     } themes[] = {
         { "device", theme_device },           { "device-ranges", theme_device_ranges }, { "reader", theme_reader },
         { "reader-ranges", theme_reader_ranges }, { "writer", theme_writer },           { "runs", theme_runs },
-        { "listed", theme_listed }
+        { "listed", theme_listed },           { "pair", theme_pair }
     };
     for (size_t i = 0; argc == 2 && i < COUNT_OF(themes); i++) {
         if (strcmp(argv[1], themes[i].name) != 0)

@@ -41,5 +41,12 @@ class Table:
         never = [name for name, times in self.counts.items() if times == 0]
         for name, values in self.sets.items():
             if values and self.counts[name]:
-                never.append(f"{name}: {' '.join(f'{v:02X}' for v in sorted(values))}")
+                never.append(f"{name}: {' '.join(shown(value) for value in sorted(values))}")
         return never
+
+
+def shown(value):
+    """A value of a thing: a number, several, or words."""
+    if isinstance(value, tuple):
+        return "+".join(shown(one) for one in value)
+    return f"({value})" if isinstance(value, str) else f"{value:02X}"
