@@ -1,9 +1,9 @@
 #!/usr/bin/env python3
 """profile.py COMMAND...: holds the worked examples of docs/PROFILE.md to a listing program, COMMAND, that reads a capture from standard input.
 
-An example is a block of indented rows 'kind a b c -> first second', in hex, on an LM89C fresh from power-on; in the listing's own
-example the record's number stands before the two answer bytes. Exits 1 and names each row that gives another answer, and each
-section of a ruling from P2 on, or of a request, that has no example.
+An example is a block of indented rows 'kind a b c -> first second', in hex, on an LM89C fresh from power-on, or behind a row of a header's six or seven
+bytes, and then as many as it counts; in the listing's own example the record's number stands before the two answer bytes. Exits 1 and names each row that
+gives another answer, each header that counts other records, and each section of a ruling from P2 on, or of a request, that has no example.
 """
 import pathlib
 import re
@@ -12,33 +12,39 @@ import sys
 
 PROFILE = pathlib.Path("docs/PROFILE.md")
 ROW = re.compile(r"    ((?:[0-9A-F]{2} ){4})-> (?:\d+ )?([0-9A-F]{2} [0-9A-F]{2})\b")
-HEADER_OF_LM89C = bytes([1, 1])
+HEADER = re.compile(r"    ((?:[0-9A-F]{2} ){6,7}) *[^\s-]")
+LM89C = bytes([1, 1])
+COUNT_BYTES = 4
 WITHOUT_EXAMPLE = {"P1"}
 
 
 def examples(lines):
-    """Each block of rows: its section's title, and (line number, record, answer) of each row."""
-    title, rows = "", []
+    """Each block of rows: its section's title, its header or b"", and (line number, record, answer) of each row."""
+    title, header, rows = "", b"", []
     for number, line in enumerate(lines + ["# end"], 1):
-        row = ROW.match(line)
+        row, head = ROW.match(line), HEADER.match(line)
         if row:
             rows.append((number, bytes.fromhex(row[1]), row[2]))
-        elif rows and not line.startswith("    "):
-            yield title, rows
-            rows = []
+        elif head and not rows:
+            header = bytes.fromhex(head[1])
+        elif not line.startswith("    "):
+            if rows:
+                yield title, header, rows
+            header, rows = b"", []
         if line.startswith("#"):
             title = line.lstrip("# ")
 
 
-def answers(command, rows):
+def answers(command, header, rows):
     """What the program lists for a capture of these records: the answer bytes of each, and the end line."""
-    capture = HEADER_OF_LM89C + len(rows).to_bytes(4, "big") + b"".join(record for _, record, _ in rows)
+    whole_header = header or LM89C + len(rows).to_bytes(COUNT_BYTES, "big")
+    capture = whole_header + b"".join(record for _, record, _ in rows)
     listed = subprocess.run(command, input=capture, capture_output=True, check=False).stdout.decode().splitlines()
     return [line.split(" ", 1)[1] for line in listed[:-1]], listed[-1] if listed else ""
 
 
-def faults_of(command, rows):
-    given, end = answers(command, rows)
+def faults_of(command, header, rows):
+    given, end = answers(command, header, rows)
     if end != f"end {len(rows)} 0":
         return [f"{PROFILE}:{rows[0][0]}: the example ends with '{end}'"]
     pairs = zip(rows, given)
@@ -51,13 +57,13 @@ def main():
     lines = PROFILE.read_text().splitlines()
     blocks = list(examples(lines))
     rulings = {title.split(".")[0] for title in re.findall(r"(?m)^### (P\d+\.|[a-m]\.)", PROFILE.read_text())} - WITHOUT_EXAMPLE
-    faults = [fault for _, rows in blocks for fault in faults_of(sys.argv[1:], rows)]
-    faults += [f"{PROFILE}: {ruling} has no example" for ruling in sorted(rulings - {title.split(".")[0] for title, _ in blocks})]
+    faults = [fault for _, header, rows in blocks for fault in faults_of(sys.argv[1:], header, rows)]
+    faults += [f"{PROFILE}: {ruling} has no example" for ruling in sorted(rulings - {title.split(".")[0] for title, _, _ in blocks})]
     if not rulings:
         faults.append(f"{PROFILE} has no section of a ruling: this test reads it wrongly")
     for fault in faults:
         print(f"profile: {fault}")
-    print(f"profile: {sum(len(rows) for _, rows in blocks)} records of {len(blocks)} examples, {len(faults)} fault(s)")
+    print(f"profile: {sum(len(rows) for _, _, rows in blocks)} records of {len(blocks)} examples, {len(faults)} fault(s)")
     return 1 if faults else 0
 
 
