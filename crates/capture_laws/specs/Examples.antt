@@ -9,12 +9,15 @@ use Rattle.capture.specs.Reader.{Out, freshOf, withDone, withCarried, holdOf, r
 use Rattle.capture.specs.Whole.{Whole, heading, firstTaken, wholeOf}
 use Rattle.capture.specs.Opened.{captureOpened}
 
--- what a delegate can check by hand of an outcome: all but the devices themselves
-pub record Summary : Type 0 where
+-- what a delegate can check by hand of an outcome: what was told
+pub record Told : Type 0 where
   pub code : ℕ
   pub consumed : ℕ
   pub answers : List ℕ
   pub finishing : ℕ
+
+-- and where the reader stands: all but the devices themselves
+pub record Standing : Type 0 where
   pub head : ℕ
   pub count : ℕ
   pub done : ℕ
@@ -23,13 +26,13 @@ pub record Summary : Type 0 where
   pub held : ℕ
   pub devices : ℕ
 
-abbrev pub summed : ℕ → ℕ → List ℕ → ℕ → Reader → Summary
-summed code consumed answers finishing s =
+pub record Summary : Type 0 where
+  pub told : Told
+  pub standing : Standing
+
+abbrev standingOf : Reader → Standing
+standingOf s =
     record {
-      code = code;
-      consumed = consumed;
-      answers = answers;
-      finishing = finishing;
       head = s .head;
       count = s .count;
       done = s .done;
@@ -39,112 +42,119 @@ summed code consumed answers finishing s =
       devices = s .bus .devices;
     }
 
+abbrev pub summed : ℕ → ℕ → List ℕ → ℕ → Reader → Summary
+summed code consumed answers finishing s =
+    record { told = record { code = code; consumed = consumed; answers = answers; finishing = finishing }; standing = standingOf s }
+
 -- ---- whole captures
 
 pub record Example : Type 0 where
   pub capture : List ℕ
   pub summary : Summary
 
-abbrev given : List ℕ → Summary → Example
-given capture summary = record { capture = capture; summary = summary }
+abbrev given : List ℕ → Told → Standing → Example
+given capture told standing = record { capture = capture; summary = record { told = told; standing = standing } }
 
 abbrev pub captures : List Example
 captures =
     -- the empty capture
     given ([])
-    (record { code = 0; consumed = 0; answers = []; finishing = 6; head = 0; count = 0; done = 0; carried = 0; bytes = 0 ∷ 0 ∷ 0 ∷ []; held = 0; devices = 0 }) ∷
+    (record { code = 0; consumed = 0; answers = []; finishing = 6 })
+    (record { head = 0; count = 0; done = 0; carried = 0; bytes = 0 ∷ 0 ∷ 0 ∷ []; held = 0; devices = 0 }) ∷
     -- device count not 1 or 2
     given (0x00 ∷ [])
-    (record { code = 1; consumed = 0; answers = []; finishing = 1; head = 0; count = 0; done = 0; carried = 0; bytes = 0 ∷ 0 ∷ 0 ∷ []; held = 1; devices = 0 }) ∷
+    (record { code = 1; consumed = 0; answers = []; finishing = 1 })
+    (record { head = 0; count = 0; done = 0; carried = 0; bytes = 0 ∷ 0 ∷ 0 ∷ []; held = 1; devices = 0 }) ∷
     given (0x03 ∷ 0x01 ∷ [])
-    (record { code = 1; consumed = 0; answers = []; finishing = 1; head = 0; count = 0; done = 0; carried = 0; bytes = 0 ∷ 0 ∷ 0 ∷ []; held = 1; devices = 0 }) ∷
+    (record { code = 1; consumed = 0; answers = []; finishing = 1 })
+    (record { head = 0; count = 0; done = 0; carried = 0; bytes = 0 ∷ 0 ∷ 0 ∷ []; held = 1; devices = 0 }) ∷
     -- cut in the header
     given (0x01 ∷ [])
-    (record { code = 0; consumed = 1; answers = []; finishing = 6; head = 1; count = 0; done = 0; carried = 0; bytes = 0 ∷ 0 ∷ 0 ∷ []; held = 0; devices = 1 }) ∷
+    (record { code = 0; consumed = 1; answers = []; finishing = 6 })
+    (record { head = 1; count = 0; done = 0; carried = 0; bytes = 0 ∷ 0 ∷ 0 ∷ []; held = 0; devices = 1 }) ∷
     -- variant not 1, 2 or 3
     given (0x01 ∷ 0x00 ∷ [])
-    (record { code = 2; consumed = 1; answers = []; finishing = 2; head = 1; count = 0; done = 0; carried = 0; bytes = 0 ∷ 0 ∷ 0 ∷ []; held = 2; devices = 1 }) ∷
+    (record { code = 2; consumed = 1; answers = []; finishing = 2 })
+    (record { head = 1; count = 0; done = 0; carried = 0; bytes = 0 ∷ 0 ∷ 0 ∷ []; held = 2; devices = 1 }) ∷
     given (0x01 ∷ 0x04 ∷ 0x00 ∷ [])
-    (record { code = 2; consumed = 1; answers = []; finishing = 2; head = 1; count = 0; done = 0; carried = 0; bytes = 0 ∷ 0 ∷ 0 ∷ []; held = 2; devices = 1 }) ∷
+    (record { code = 2; consumed = 1; answers = []; finishing = 2 })
+    (record { head = 1; count = 0; done = 0; carried = 0; bytes = 0 ∷ 0 ∷ 0 ∷ []; held = 2; devices = 1 }) ∷
     -- cut after the variant, and in the count
     given (0x01 ∷ 0x03 ∷ [])
-    (record { code = 0; consumed = 2; answers = []; finishing = 6; head = 2; count = 0; done = 0; carried = 0; bytes = 0 ∷ 0 ∷ 0 ∷ []; held = 0; devices = 1 }) ∷
+    (record { code = 0; consumed = 2; answers = []; finishing = 6 })
+    (record { head = 2; count = 0; done = 0; carried = 0; bytes = 0 ∷ 0 ∷ 0 ∷ []; held = 0; devices = 1 }) ∷
     given (0x01 ∷ 0x03 ∷ 0x01 ∷ [])
-    (record { code = 0; consumed = 3; answers = []; finishing = 6; head = 3; count = 1; done = 0; carried = 0; bytes = 0 ∷ 0 ∷ 0 ∷ []; held = 0; devices = 1 }) ∷
+    (record { code = 0; consumed = 3; answers = []; finishing = 6 })
+    (record { head = 3; count = 1; done = 0; carried = 0; bytes = 0 ∷ 0 ∷ 0 ∷ []; held = 0; devices = 1 }) ∷
     given (0x01 ∷ 0x03 ∷ 0x01 ∷ 0x02 ∷ [])
-    (record { code = 0; consumed = 4; answers = []; finishing = 6; head = 4; count = 258; done = 0; carried = 0; bytes = 0 ∷ 0 ∷ 0 ∷ []; held = 0; devices = 1 }) ∷
+    (record { code = 0; consumed = 4; answers = []; finishing = 6 })
+    (record { head = 4; count = 258; done = 0; carried = 0; bytes = 0 ∷ 0 ∷ 0 ∷ []; held = 0; devices = 1 }) ∷
     given (0x01 ∷ 0x02 ∷ 0x01 ∷ 0x02 ∷ 0x03 ∷ [])
-    (record { code = 0; consumed = 5; answers = []; finishing = 6; head = 5; count = 66051; done = 0; carried = 0; bytes = 0 ∷ 0 ∷ 0 ∷ []; held = 0; devices = 1 }) ∷
+    (record { code = 0; consumed = 5; answers = []; finishing = 6 })
+    (record { head = 5; count = 66051; done = 0; carried = 0; bytes = 0 ∷ 0 ∷ 0 ∷ []; held = 0; devices = 1 }) ∷
     -- complete, with a count of 16909060
     given (0x01 ∷ 0x01 ∷ 0x01 ∷ 0x02 ∷ 0x03 ∷ 0x04 ∷ [])
-    (record { code = 0; consumed = 6; answers = []; finishing = 6; head = 6; count = 16909060; done = 0; carried = 0; bytes = 0 ∷ 0 ∷ 0 ∷ []; held = 0; devices = 1 }) ∷
+    (record { code = 0; consumed = 6; answers = []; finishing = 6 })
+    (record { head = 6; count = 16909060; done = 0; carried = 0; bytes = 0 ∷ 0 ∷ 0 ∷ []; held = 0; devices = 1 }) ∷
     -- no records, and a byte after them
     given (0x01 ∷ 0x01 ∷ 0x00 ∷ 0x00 ∷ 0x00 ∷ 0x00 ∷ [])
-    (record { code = 0; consumed = 6; answers = []; finishing = 0; head = 6; count = 0; done = 0; carried = 0; bytes = 0 ∷ 0 ∷ 0 ∷ []; held = 0; devices = 1 }) ∷
+    (record { code = 0; consumed = 6; answers = []; finishing = 0 })
+    (record { head = 6; count = 0; done = 0; carried = 0; bytes = 0 ∷ 0 ∷ 0 ∷ []; held = 0; devices = 1 }) ∷
     given (0x01 ∷ 0x01 ∷ 0x00 ∷ 0x00 ∷ 0x00 ∷ 0x00 ∷ 0x01 ∷ [])
-    (record { code = 5; consumed = 6; answers = []; finishing = 5; head = 6; count = 0; done = 0; carried = 0; bytes = 0 ∷ 0 ∷ 0 ∷ []; held = 5; devices = 1 }) ∷
+    (record { code = 5; consumed = 6; answers = []; finishing = 5 })
+    (record { head = 6; count = 0; done = 0; carried = 0; bytes = 0 ∷ 0 ∷ 0 ∷ []; held = 5; devices = 1 }) ∷
     -- cut in the first record
     given (0x01 ∷ 0x01 ∷ 0x00 ∷ 0x00 ∷ 0x00 ∷ 0x02 ∷ 0x05 ∷ [])
-    (record { code = 0; consumed = 7; answers = []; finishing = 6; head = 6; count = 2; done = 0; carried = 1; bytes = 5 ∷ 0 ∷ 0 ∷ []; held = 0; devices = 1 }) ∷
+    (record { code = 0; consumed = 7; answers = []; finishing = 6 })
+    (record { head = 6; count = 2; done = 0; carried = 1; bytes = 5 ∷ 0 ∷ 0 ∷ []; held = 0; devices = 1 }) ∷
     given (0x01 ∷ 0x01 ∷ 0x00 ∷ 0x00 ∷ 0x00 ∷ 0x02 ∷ 0x05 ∷ 0x14 ∷ [])
-    (record { code = 0; consumed = 8; answers = []; finishing = 6; head = 6; count = 2; done = 0; carried = 2; bytes = 5 ∷ 20 ∷ 0 ∷ []; held = 0; devices = 1 }) ∷
+    (record { code = 0; consumed = 8; answers = []; finishing = 6 })
+    (record { head = 6; count = 2; done = 0; carried = 2; bytes = 5 ∷ 20 ∷ 0 ∷ []; held = 0; devices = 1 }) ∷
     given (0x01 ∷ 0x01 ∷ 0x00 ∷ 0x00 ∷ 0x00 ∷ 0x02 ∷ 0x05 ∷ 0x14 ∷ 0x00 ∷ [])
-    (record { code = 0; consumed = 9; answers = []; finishing = 6; head = 6; count = 2; done = 0; carried = 3; bytes = 5 ∷ 20 ∷ 0 ∷ []; held = 0; devices = 1 }) ∷
+    (record { code = 0; consumed = 9; answers = []; finishing = 6 })
+    (record { head = 6; count = 2; done = 0; carried = 3; bytes = 5 ∷ 20 ∷ 0 ∷ []; held = 0; devices = 1 }) ∷
     -- one of two done
     given (0x01 ∷ 0x01 ∷ 0x00 ∷ 0x00 ∷ 0x00 ∷ 0x02 ∷ 0x05 ∷ 0x14 ∷ 0x00 ∷ 0x00 ∷ [])
-    (record { code = 0; consumed = 10; answers = 0x08 ∷ 0x00 ∷ []; finishing = 6; head = 6; count = 2; done = 1; carried = 0; bytes = 0 ∷ 0 ∷ 0 ∷ []; held = 0; devices = 1 }) ∷
+    (record { code = 0; consumed = 10; answers = 0x08 ∷ 0x00 ∷ []; finishing = 6 })
+    (record { head = 6; count = 2; done = 1; carried = 0; bytes = 0 ∷ 0 ∷ 0 ∷ []; held = 0; devices = 1 }) ∷
     -- cut in the second
     given (0x01 ∷ 0x01 ∷ 0x00 ∷ 0x00 ∷ 0x00 ∷ 0x02 ∷ 0x05 ∷ 0x14 ∷ 0x00 ∷ 0x00 ∷ 0x02 ∷ 0x4C ∷ [])
-    (record { code = 0; consumed = 12; answers = 0x08 ∷ 0x00 ∷ []; finishing = 6; head = 6; count = 2; done = 1; carried = 2; bytes = 2 ∷ 76 ∷ 0 ∷ []; held = 0; devices = 1 }) ∷
+    (record { code = 0; consumed = 12; answers = 0x08 ∷ 0x00 ∷ []; finishing = 6 })
+    (record { head = 6; count = 2; done = 1; carried = 2; bytes = 2 ∷ 76 ∷ 0 ∷ []; held = 0; devices = 1 }) ∷
     -- both done, and a byte after them
     given (0x01 ∷ 0x01 ∷ 0x00 ∷ 0x00 ∷ 0x00 ∷ 0x02 ∷ 0x05 ∷ 0x14 ∷ 0x00 ∷ 0x00 ∷ 0x02 ∷ 0x4C ∷ 0x00 ∷ 0x00 ∷ [])
-    (record { code = 0; consumed = 14; answers = 0x08 ∷ 0x00 ∷ 0x04 ∷ 0x14 ∷ []; finishing = 0; head = 6; count = 2; done = 2; carried = 0; bytes = 0 ∷ 0 ∷ 0 ∷ []; held = 0; devices = 1 }) ∷
+    (record { code = 0; consumed = 14; answers = 0x08 ∷ 0x00 ∷ 0x04 ∷ 0x14 ∷ []; finishing = 0 })
+    (record { head = 6; count = 2; done = 2; carried = 0; bytes = 0 ∷ 0 ∷ 0 ∷ []; held = 0; devices = 1 }) ∷
     given (0x01 ∷ 0x01 ∷ 0x00 ∷ 0x00 ∷ 0x00 ∷ 0x02 ∷ 0x05 ∷ 0x14 ∷ 0x00 ∷ 0x00 ∷ 0x02 ∷ 0x4C ∷ 0x00 ∷ 0x00 ∷ 0x00 ∷ [])
-    (record { code = 5; consumed = 14; answers = 0x08 ∷ 0x00 ∷ 0x04 ∷ 0x14 ∷ []; finishing = 5; head = 6; count = 2; done = 2; carried = 0; bytes = 0 ∷ 0 ∷ 0 ∷ []; held = 5; devices = 1 }) ∷
+    (record { code = 5; consumed = 14; answers = 0x08 ∷ 0x00 ∷ 0x04 ∷ 0x14 ∷ []; finishing = 5 })
+    (record { head = 6; count = 2; done = 2; carried = 0; bytes = 0 ∷ 0 ∷ 0 ∷ []; held = 5; devices = 1 }) ∷
     -- a kind that is not 01 to 07, after a valid record
     given (0x01 ∷ 0x01 ∷ 0x00 ∷ 0x00 ∷ 0x00 ∷ 0x02 ∷ 0x05 ∷ 0x14 ∷ 0x00 ∷ 0x00 ∷ 0x00 ∷ 0x00 ∷ 0x00 ∷ 0x00 ∷ [])
-    (record { code = 3; consumed = 13; answers = 0x08 ∷ 0x00 ∷ []; finishing = 3; head = 6; count = 2; done = 1; carried = 3; bytes = 0 ∷ 0 ∷ 0 ∷ []; held = 3; devices = 1 }) ∷
+    (record { code = 3; consumed = 13; answers = 0x08 ∷ 0x00 ∷ []; finishing = 3 })
+    (record { head = 6; count = 2; done = 1; carried = 3; bytes = 0 ∷ 0 ∷ 0 ∷ []; held = 3; devices = 1 }) ∷
     given (0x01 ∷ 0x01 ∷ 0x00 ∷ 0x00 ∷ 0x00 ∷ 0x02 ∷ 0x05 ∷ 0x14 ∷ 0x00 ∷ 0x00 ∷ 0x08 ∷ 0x80 ∷ 0x00 ∷ 0x00 ∷ [])
-    (record { code = 3; consumed = 13; answers = 0x08 ∷ 0x00 ∷ []; finishing = 3; head = 6; count = 2; done = 1; carried = 3; bytes = 8 ∷ 128 ∷ 0 ∷ []; held = 3; devices = 1 }) ∷
+    (record { code = 3; consumed = 13; answers = 0x08 ∷ 0x00 ∷ []; finishing = 3 })
+    (record { head = 6; count = 2; done = 1; carried = 3; bytes = 8 ∷ 128 ∷ 0 ∷ []; held = 3; devices = 1 }) ∷
     -- an operand that breaks the table
     given (0x01 ∷ 0x01 ∷ 0x00 ∷ 0x00 ∷ 0x00 ∷ 0x02 ∷ 0x02 ∷ 0x80 ∷ 0x00 ∷ 0x00 ∷ [])
-    (record { code = 4; consumed = 9; answers = []; finishing = 4; head = 6; count = 2; done = 0; carried = 3; bytes = 2 ∷ 128 ∷ 0 ∷ []; held = 4; devices = 1 }) ∷
+    (record { code = 4; consumed = 9; answers = []; finishing = 4 })
+    (record { head = 6; count = 2; done = 0; carried = 3; bytes = 2 ∷ 128 ∷ 0 ∷ []; held = 4; devices = 1 }) ∷
     given (0x01 ∷ 0x01 ∷ 0x00 ∷ 0x00 ∷ 0x00 ∷ 0x02 ∷ 0x05 ∷ 0x14 ∷ 0x00 ∷ 0x00 ∷ 0x02 ∷ 0x4C ∷ 0x00 ∷ 0x01 ∷ [])
-    (record { code = 4; consumed = 13; answers = 0x08 ∷ 0x00 ∷ []; finishing = 4; head = 6; count = 2; done = 1; carried = 3; bytes = 2 ∷ 76 ∷ 0 ∷ []; held = 4; devices = 1 }) ∷
+    (record { code = 4; consumed = 13; answers = 0x08 ∷ 0x00 ∷ []; finishing = 4 })
+    (record { head = 6; count = 2; done = 1; carried = 3; bytes = 2 ∷ 76 ∷ 0 ∷ []; held = 4; devices = 1 }) ∷
     -- request b: offset 127; 7 + 1016 eighths are exactly the end of the scale, 8 + 1016 are held
     given
     (0x01 ∷ 0x01 ∷ 0x00 ∷ 0x00 ∷ 0x00 ∷ 0x03 ∷ 0x01 ∷ 0x4C ∷ 0x11 ∷ 0x7F ∷ 0x05 ∷ 0x14 ∷ 0x00 ∷ 0xE0 ∷ 0x05 ∷ 0x14 ∷ 0x01 ∷ 0x00 ∷ [])
-    (record {
-      code = 0;
-      consumed = 18;
-      answers = 0x04 ∷ 0x00 ∷ 0x0B ∷ 0x00 ∷ 0x1B ∷ 0x00 ∷ [];
-      finishing = 0;
-      head = 6;
-      count = 3;
-      done = 3;
-      carried = 0;
-      bytes = 0 ∷ 0 ∷ 0 ∷ [];
-      held = 0;
-      devices = 1;
-    }) ∷
+    (record { code = 0; consumed = 18; answers = 0x04 ∷ 0x00 ∷ 0x0B ∷ 0x00 ∷ 0x1B ∷ 0x00 ∷ []; finishing = 0 })
+    (record { head = 6; count = 3; done = 3; carried = 0; bytes = 0 ∷ 0 ∷ 0 ∷ []; held = 0; devices = 1 }) ∷
     -- request c: a conversion of the second, then its local reading and that of the first
     given (0x02 ∷ 0x01 ∷ 0x02 ∷ 0x00 ∷ 0x00 ∷ 0x00 ∷ 0x03 ∷ 0x08 ∷ 0x14 ∷ 0x00 ∷ 0x00 ∷ 0x02 ∷ 0x4D ∷ 0x00 ∷ 0x00 ∷ 0x02 ∷ 0x4C ∷ 0x00 ∷ 0x00 ∷ [])
-    (record {
-      code = 0;
-      consumed = 19;
-      answers = 0x08 ∷ 0x00 ∷ 0x04 ∷ 0x14 ∷ 0x04 ∷ 0x00 ∷ [];
-      finishing = 0;
-      head = 7;
-      count = 3;
-      done = 3;
-      carried = 0;
-      bytes = 0 ∷ 0 ∷ 0 ∷ [];
-      held = 0;
-      devices = 2;
-    }) ∷
+    (record { code = 0; consumed = 19; answers = 0x08 ∷ 0x00 ∷ 0x04 ∷ 0x14 ∷ 0x04 ∷ 0x00 ∷ []; finishing = 0 })
+    (record { head = 7; count = 3; done = 3; carried = 0; bytes = 0 ∷ 0 ∷ 0 ∷ []; held = 0; devices = 2 }) ∷
     -- 09: an open diode reads 127, above the high limit and T_CRIT
     given (0x02 ∷ 0x01 ∷ 0x02 ∷ 0x00 ∷ 0x00 ∷ 0x00 ∷ 0x01 ∷ 0x09 ∷ 0x14 ∷ 0x00 ∷ 0x00 ∷ [])
-    (record { code = 0; consumed = 11; answers = 0x0B ∷ 0x00 ∷ []; finishing = 0; head = 7; count = 1; done = 1; carried = 0; bytes = 0 ∷ 0 ∷ 0 ∷ []; held = 0; devices = 2 }) ∷
+    (record { code = 0; consumed = 11; answers = 0x0B ∷ 0x00 ∷ []; finishing = 0 })
+    (record { head = 7; count = 1; done = 1; carried = 0; bytes = 0 ∷ 0 ∷ 0 ∷ []; held = 0; devices = 2 }) ∷
     []
 
 abbrev ofWhole : Whole → Summary
@@ -161,34 +171,45 @@ pub record Roomed : Type 0 where
   pub room : ℕ
   pub summary : Summary
 
-abbrev withRoom : List ℕ → ℕ → Summary → Roomed
-withRoom capture room summary = record { capture = capture; room = room; summary = summary }
+abbrev withRoom : List ℕ → ℕ → Told → Standing → Roomed
+withRoom capture room told standing = record { capture = capture; room = room; summary = record { told = told; standing = standing } }
 
 -- 3 and 4 come before 7, and 5 needs no room
 abbrev pub roomed : List Roomed
 roomed =
     withRoom (0x01 ∷ 0x01 ∷ 0x00 ∷ 0x00 ∷ 0x00 ∷ 0x02 ∷ 0x05 ∷ 0x14 ∷ 0x00 ∷ 0x00 ∷ 0x02 ∷ 0x4C ∷ 0x00 ∷ 0x00 ∷ []) 0
-    (record { code = 7; consumed = 9; answers = []; finishing = 6; head = 6; count = 2; done = 0; carried = 3; bytes = 5 ∷ 20 ∷ 0 ∷ []; held = 0; devices = 1 }) ∷
+    (record { code = 7; consumed = 9; answers = []; finishing = 6 })
+    (record { head = 6; count = 2; done = 0; carried = 3; bytes = 5 ∷ 20 ∷ 0 ∷ []; held = 0; devices = 1 }) ∷
     withRoom (0x01 ∷ 0x01 ∷ 0x00 ∷ 0x00 ∷ 0x00 ∷ 0x02 ∷ 0x05 ∷ 0x14 ∷ 0x00 ∷ 0x00 ∷ 0x02 ∷ 0x4C ∷ 0x00 ∷ 0x00 ∷ []) 1
-    (record { code = 7; consumed = 9; answers = []; finishing = 6; head = 6; count = 2; done = 0; carried = 3; bytes = 5 ∷ 20 ∷ 0 ∷ []; held = 0; devices = 1 }) ∷
+    (record { code = 7; consumed = 9; answers = []; finishing = 6 })
+    (record { head = 6; count = 2; done = 0; carried = 3; bytes = 5 ∷ 20 ∷ 0 ∷ []; held = 0; devices = 1 }) ∷
     withRoom (0x01 ∷ 0x01 ∷ 0x00 ∷ 0x00 ∷ 0x00 ∷ 0x02 ∷ 0x05 ∷ 0x14 ∷ 0x00 ∷ 0x00 ∷ 0x02 ∷ 0x4C ∷ 0x00 ∷ 0x00 ∷ []) 2
-    (record { code = 7; consumed = 13; answers = 0x08 ∷ 0x00 ∷ []; finishing = 6; head = 6; count = 2; done = 1; carried = 3; bytes = 2 ∷ 76 ∷ 0 ∷ []; held = 0; devices = 1 }) ∷
+    (record { code = 7; consumed = 13; answers = 0x08 ∷ 0x00 ∷ []; finishing = 6 })
+    (record { head = 6; count = 2; done = 1; carried = 3; bytes = 2 ∷ 76 ∷ 0 ∷ []; held = 0; devices = 1 }) ∷
     withRoom (0x01 ∷ 0x01 ∷ 0x00 ∷ 0x00 ∷ 0x00 ∷ 0x02 ∷ 0x05 ∷ 0x14 ∷ 0x00 ∷ 0x00 ∷ 0x02 ∷ 0x4C ∷ 0x00 ∷ 0x00 ∷ []) 3
-    (record { code = 7; consumed = 13; answers = 0x08 ∷ 0x00 ∷ []; finishing = 6; head = 6; count = 2; done = 1; carried = 3; bytes = 2 ∷ 76 ∷ 0 ∷ []; held = 0; devices = 1 }) ∷
+    (record { code = 7; consumed = 13; answers = 0x08 ∷ 0x00 ∷ []; finishing = 6 })
+    (record { head = 6; count = 2; done = 1; carried = 3; bytes = 2 ∷ 76 ∷ 0 ∷ []; held = 0; devices = 1 }) ∷
     withRoom (0x01 ∷ 0x01 ∷ 0x00 ∷ 0x00 ∷ 0x00 ∷ 0x02 ∷ 0x05 ∷ 0x14 ∷ 0x00 ∷ 0x00 ∷ 0x02 ∷ 0x4C ∷ 0x00 ∷ 0x00 ∷ []) 4
-    (record { code = 0; consumed = 14; answers = 0x08 ∷ 0x00 ∷ 0x04 ∷ 0x14 ∷ []; finishing = 0; head = 6; count = 2; done = 2; carried = 0; bytes = 0 ∷ 0 ∷ 0 ∷ []; held = 0; devices = 1 }) ∷
+    (record { code = 0; consumed = 14; answers = 0x08 ∷ 0x00 ∷ 0x04 ∷ 0x14 ∷ []; finishing = 0 })
+    (record { head = 6; count = 2; done = 2; carried = 0; bytes = 0 ∷ 0 ∷ 0 ∷ []; held = 0; devices = 1 }) ∷
     withRoom (0x01 ∷ 0x01 ∷ 0x00 ∷ 0x00 ∷ 0x00 ∷ 0x02 ∷ 0x05 ∷ 0x14 ∷ 0x00 ∷ 0x00 ∷ 0x02 ∷ 0x4C ∷ 0x00 ∷ 0x00 ∷ []) 5
-    (record { code = 0; consumed = 14; answers = 0x08 ∷ 0x00 ∷ 0x04 ∷ 0x14 ∷ []; finishing = 0; head = 6; count = 2; done = 2; carried = 0; bytes = 0 ∷ 0 ∷ 0 ∷ []; held = 0; devices = 1 }) ∷
+    (record { code = 0; consumed = 14; answers = 0x08 ∷ 0x00 ∷ 0x04 ∷ 0x14 ∷ []; finishing = 0 })
+    (record { head = 6; count = 2; done = 2; carried = 0; bytes = 0 ∷ 0 ∷ 0 ∷ []; held = 0; devices = 1 }) ∷
     withRoom (0x01 ∷ 0x01 ∷ 0x00 ∷ 0x00 ∷ 0x00 ∷ 0x02 ∷ 0x00 ∷ 0x00 ∷ 0x00 ∷ 0x00 ∷ []) 0
-    (record { code = 3; consumed = 9; answers = []; finishing = 3; head = 6; count = 2; done = 0; carried = 3; bytes = 0 ∷ 0 ∷ 0 ∷ []; held = 3; devices = 1 }) ∷
+    (record { code = 3; consumed = 9; answers = []; finishing = 3 })
+    (record { head = 6; count = 2; done = 0; carried = 3; bytes = 0 ∷ 0 ∷ 0 ∷ []; held = 3; devices = 1 }) ∷
     withRoom (0x01 ∷ 0x01 ∷ 0x00 ∷ 0x00 ∷ 0x00 ∷ 0x02 ∷ 0x02 ∷ 0x80 ∷ 0x00 ∷ 0x00 ∷ []) 1
-    (record { code = 4; consumed = 9; answers = []; finishing = 4; head = 6; count = 2; done = 0; carried = 3; bytes = 2 ∷ 128 ∷ 0 ∷ []; held = 4; devices = 1 }) ∷
+    (record { code = 4; consumed = 9; answers = []; finishing = 4 })
+    (record { head = 6; count = 2; done = 0; carried = 3; bytes = 2 ∷ 128 ∷ 0 ∷ []; held = 4; devices = 1 }) ∷
     withRoom (0x01 ∷ 0x01 ∷ 0x00 ∷ 0x00 ∷ 0x00 ∷ 0x02 ∷ 0x05 ∷ 0x14 ∷ 0x00 ∷ 0x00 ∷ 0x02 ∷ 0x4C ∷ 0x00 ∷ 0x00 ∷ 0x09 ∷ []) 4
-    (record { code = 5; consumed = 14; answers = 0x08 ∷ 0x00 ∷ 0x04 ∷ 0x14 ∷ []; finishing = 5; head = 6; count = 2; done = 2; carried = 0; bytes = 0 ∷ 0 ∷ 0 ∷ []; held = 5; devices = 1 }) ∷
+    (record { code = 5; consumed = 14; answers = 0x08 ∷ 0x00 ∷ 0x04 ∷ 0x14 ∷ []; finishing = 5 })
+    (record { head = 6; count = 2; done = 2; carried = 0; bytes = 0 ∷ 0 ∷ 0 ∷ []; held = 5; devices = 1 }) ∷
     withRoom (0x01 ∷ 0x01 ∷ 0x00 ∷ 0x00 ∷ 0x00 ∷ 0x02 ∷ 0x05 ∷ 0x14 ∷ 0x00 ∷ 0x00 ∷ 0x05 ∷ 0x01 ∷ 0x01 ∷ []) 2
-    (record { code = 0; consumed = 13; answers = 0x08 ∷ 0x00 ∷ []; finishing = 6; head = 6; count = 2; done = 1; carried = 3; bytes = 5 ∷ 1 ∷ 1 ∷ []; held = 0; devices = 1 }) ∷
+    (record { code = 0; consumed = 13; answers = 0x08 ∷ 0x00 ∷ []; finishing = 6 })
+    (record { head = 6; count = 2; done = 1; carried = 3; bytes = 5 ∷ 1 ∷ 1 ∷ []; held = 0; devices = 1 }) ∷
     withRoom (0x01 ∷ 0x01 ∷ 0x00 ∷ 0x00 ∷ 0x00 ∷ 0x02 ∷ 0x05 ∷ 0x14 ∷ 0x00 ∷ 0x00 ∷ 0x05 ∷ 0x01 ∷ 0x01 ∷ []) 0
-    (record { code = 7; consumed = 9; answers = []; finishing = 6; head = 6; count = 2; done = 0; carried = 3; bytes = 5 ∷ 20 ∷ 0 ∷ []; held = 0; devices = 1 }) ∷
+    (record { code = 7; consumed = 9; answers = []; finishing = 6 })
+    (record { head = 6; count = 2; done = 0; carried = 3; bytes = 5 ∷ 20 ∷ 0 ∷ []; held = 0; devices = 1 }) ∷
     []
 
 abbrev ofCall : Out → Summary
