@@ -6,6 +6,7 @@
 
 #include "check.h"
 #include "lm89.h"
+#include "same_device.h"
 
 #define HEADER LM89_HEADER_2_BYTES
 #define ALERTING 0x7B /* the status bits that alert: all but OPEN */
@@ -23,15 +24,6 @@ static const uint8_t orders[][2] = {
 static uint8_t address_of(uint8_t variant)
 {
     return variant == LM89_VARIANT_LM89C ? LM89_ADDRESS_LM89C : LM89_ADDRESS_LM89_1C;
-}
-
-static bool same_device(const lm89_device *x, const lm89_device *y)
-{
-    return x->sensed.local == y->sensed.local && x->sensed.remote == y->sensed.remote && x->sensed.live == y->sensed.live
-        && x->sensed.faults == y->sensed.faults && x->sensed.llatch == y->sensed.llatch && x->sensed.rlatch == y->sensed.rlatch
-        && x->variant == y->variant && x->pointer == y->pointer && x->pending == y->pending && x->status == y->status
-        && x->low == y->low && x->lowkept == y->lowkept
-        && memcmp(x->settings, y->settings, sizeof x->settings) == 0;
 }
 
 /* A reader with its header taken, and room for records without end. */

@@ -6,6 +6,7 @@
 
 #include "check.h"
 #include "lm89.h"
+#include "same_device.h"
 
 #define UNTOUCHED 0xA7
 #define GUARD 16
@@ -86,15 +87,6 @@ static bool all(const uint8_t *bytes, size_t length, uint8_t value)
         }
     }
     return true;
-}
-
-static bool same_device(const lm89_device *x, const lm89_device *y)
-{
-    return x->sensed.local == y->sensed.local && x->sensed.remote == y->sensed.remote && x->sensed.live == y->sensed.live
-        && x->sensed.faults == y->sensed.faults && x->sensed.llatch == y->sensed.llatch && x->sensed.rlatch == y->sensed.rlatch
-        && x->variant == y->variant && x->pointer == y->pointer && x->pending == y->pending && x->status == y->status
-        && x->low == y->low && x->lowkept == y->lowkept
-        && memcmp(x->settings, y->settings, sizeof x->settings) == 0;
 }
 
 static bool same_bus(const lm89_bus *x, const lm89_bus *y)
