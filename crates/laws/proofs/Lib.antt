@@ -1,3 +1,4 @@
+pub mod Arms
 pub mod Choices
 pub mod OneAnswer
 pub mod Exactly
