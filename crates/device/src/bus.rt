@@ -246,7 +246,7 @@ pub fn powered(variant: u8) -> Device
     };
     Device {
         variant,
-        pointer: 0,
+        pointer: registers::LOCAL,
         pending: false,
         status: 0,
         low: 0,

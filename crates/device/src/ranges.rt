@@ -43,9 +43,9 @@ fn masks(s: [u8; 14]) -> bool
     all(
         &[
             keeps(s[registers::CONFIGURATION], bits::CONFIGURATION_KEPT),
-            keeps(s[registers::OFFSET_PART], bits::PART_KEPT),
-            keeps(s[registers::REMOTE_HIGH_PART], bits::PART_KEPT),
-            keeps(s[registers::REMOTE_LOW_PART], bits::PART_KEPT),
+            keeps(s[registers::OFFSET_PART], bits::FRACTION_KEPT),
+            keeps(s[registers::REMOTE_HIGH_PART], bits::FRACTION_KEPT),
+            keeps(s[registers::REMOTE_LOW_PART], bits::FRACTION_KEPT),
             keeps(s[registers::HYSTERESIS], bits::HYSTERESIS_KEPT),
             keeps(s[registers::FILTER_ALERT], bits::FILTER_ALERT_KEPT),
         ],

@@ -1,57 +1,48 @@
--- The program's tests of a register number against the page, each by one computed comparison over the 256 numbers.
+-- The numbers without a row, and the bytes at power-on, against the page, each by one computed comparison over the 256 numbers.
 -- Assumes nothing.
 use mathlib.Core.Path.{_≡_, refl, ap, _∙_}
-use mathlib.Core.Bool.{Bool, true, false, cond, not, _&&_, _||_}
-use Prim.Native.Nat.{ℕ, zero, suc, _+_, _/_, _%_, _^_, _<_, _≤_}
+use mathlib.Core.Bool.{Bool, true, false, cond}
+use mathlib.Core.List.{List, [], _∷_}
+use Prim.Native.Nat.{ℕ, zero, suc, _<_, _≤_}
 use native.Mathlib.Omega.{arith}
-use lib.Dec.{eqb, ltb, leb}
-use lib.Bits.{bitAnd}
+use lib.Dec.{eqb, leb}
+use borrow.Author.Tests.{le-leb, lt-leb}
+use Rattle.laws.proofs.Arms.{keyed, Missed, missed}
 use Rattle.laws.proofs.Tables.{agree}
-use Rattle.registers.specs.declared.Position.the-variants.{At, Nowhere}
-use Rattle.registers.specs.Page.{Default, everyVariant, each, column, page, readOnlyIn, readableOf, writableOf, knownOf, writePositionOf}
-use Rattle.registers.specs.Page.{readPositionOf, keptOf, readOnlyOf}
+use Rattle.registers.specs.Rows.{Told, byPage, byRow}
+use Rattle.registers.specs.Page.{Default, everyVariant, each, column, page, readOnlyIn, readOnlyOf}
+use Rattle.registers.specs.Opened.{registersOpened}
 
--- ---- the right to read and to write
+-- ---- the numbers that have no row
 
--- bit r of a set of registers below 40
-abbrev listed : ℕ → ℕ → Bool
-listed set r = ltb r 0x40 && not (eqb (bitAnd (set / 2 ^ (r % 0x40)) 1) 0)
+-- the addresses of the rows of src/page.rt, each of its two parts from the last row to the first
+abbrev close : List (List ℕ)
+close =
+    (0x21 ∷ []) ∷ (0x20 ∷ []) ∷ (0x19 ∷ []) ∷ (0x14 ∷ []) ∷ (0x13 ∷ []) ∷ (0x12 ∷ []) ∷ (0x11 ∷ []) ∷ (0x10 ∷ []) ∷ (0x0F ∷ []) ∷
+    (0x08 ∷ 0x0E ∷ []) ∷ (0x07 ∷ 0x0D ∷ []) ∷ (0x06 ∷ 0x0C ∷ []) ∷ (0x05 ∷ 0x0B ∷ []) ∷ (0x04 ∷ 0x0A ∷ []) ∷ (0x03 ∷ 0x09 ∷ []) ∷
+    (0x02 ∷ []) ∷ (0x01 ∷ []) ∷ (0x00 ∷ []) ∷ []
 
-pub read-right : (r : ℕ) → r < 256 → (listed 0x3021F01FF r || eqb r 0xBF || leb 0xFE r) ≡ readableOf r
-unfolding readableOf
-read-right = agree (λ r. listed 0x3021F01FF r || eqb r 0xBF || leb 0xFE r) readableOf 256 refl
+abbrev far : List (List ℕ)
+far = (0xFF ∷ []) ∷ (0xFE ∷ []) ∷ (0xBF ∷ []) ∷ []
 
-pub write-right : (r : ℕ) → r < 256 → (listed 0x3021EFE00 r || eqb r 0xBF) ≡ writableOf r
-unfolding writableOf
-write-right = agree (λ r. listed 0x3021EFE00 r || eqb r 0xBF) writableOf 256 refl
+abbrev rowed : ℕ → Bool
+rowed r = cond (leb r 0x21) (keyed close r) (keyed far r)
 
-pub either-right : (r : ℕ) → r < 256 → (listed 0x3021FFFFF r || eqb r 0xBF || leb 0xFE r) ≡ knownOf r
-unfolding knownOf readableOf writableOf
-either-right = agree (λ r. listed 0x3021FFFFF r || eqb r 0xBF || leb 0xFE r) knownOf 256 refl
+-- a row without access
+abbrev bare : ℕ → Told
+bare r = byRow r 0 14 0xFF
 
--- ---- the position
+-- by the page, too, a number without a row has no right, no position and every bit: one computed comparison over the 256 numbers
+without-row : (r : ℕ) → r < 256 → rowed r ≡ false → bare r ≡ byPage r
+unfolding registersOpened
+without-row r h e = rw e at (agree (λ k. cond (rowed k) (byPage k) (bare k)) byPage 256 refl r h)
 
-abbrev place : ℕ → ℕ → ℕ
-place r low =
-    (r % 16 + cond (ltb r 0x10) low 0 + cond (leb 0x10 r) 5 0 + cond (leb 0x15 r) 12 0 + cond (leb 0x20 r) 10 0 + cond (leb 0x30 r) 3 0) % 16
+-- as the last arms of the two parts have it
+pub without-close : (r : ℕ) → r < 256 → r ≤ 0x21 → Missed close r → bare r ≡ byPage r
+without-close r h low m = without-row r h (rw (le-leb r 0x21 low, missed close r m))
 
-pub read-place : (r : ℕ) → r < 256 → cond (listed 0x3021E01F8 r || eqb r 0xBF) (At (place r 13)) Nowhere ≡ readPositionOf r
-unfolding readPositionOf
-read-place = agree (λ r. cond (listed 0x3021E01F8 r || eqb r 0xBF) (At (place r 13)) Nowhere) readPositionOf 256 refl
-
-pub write-place : (r : ℕ) → r < 256 → cond (listed 0x3021E7E00 r || eqb r 0xBF) (At (place r 7)) Nowhere ≡ writePositionOf r
-unfolding writePositionOf
-write-place = agree (λ r. cond (listed 0x3021E7E00 r || eqb r 0xBF) (At (place r 7)) Nowhere) writePositionOf 256 refl
-
--- ---- kept bits
-
-abbrev masks : ℕ → ℕ
-masks r =
-    bitAnd (bitAnd (bitAnd (cond (eqb r 0x03 || eqb r 0x09) 0xD5 0xFF) (cond (leb 0x12 r && leb r 0x14) 0xE0 0xFF)) (cond (eqb r 0x21) 0x1F 0xFF)) (cond (eqb r 0xBF) 0x07 0xFF)
-
-pub kept-bits : (r : ℕ) → r < 256 → masks r ≡ keptOf r
-unfolding keptOf
-kept-bits = agree masks keptOf 256 refl
+pub without-far : (r : ℕ) → r < 256 → 0x21 < r → Missed far r → bare r ≡ byPage r
+without-far r h high m = without-row r h (rw (lt-leb r 0x21 high, missed far r m))
 
 -- ---- power-on
 

@@ -1,4 +1,5 @@
 pub mod Bits
 pub mod Page
+pub mod Rows
 pub mod Opened
 pub mod Printed

@@ -35,11 +35,17 @@ pub const FAULT_QUEUE: u8 = 0x01;
 // BF: ALERT is a comparator.
 pub const COMPARATOR: u8 = 0x01;
 
-// Kept bits: of 03; of 12, 13 and 14; of 21; of BF.
-pub const CONFIGURATION_KEPT: u8 = 0xD5;
+// The bits that a write keeps, D7 to D0. Of 03.
+pub const CONFIGURATION_KEPT: u8 = 0b1101_0101;
 
-pub const PART_KEPT: u8 = 0xE0;
+// Of 12, 13 and 14: halves, quarters and eighths of a degree.
+pub const FRACTION_KEPT: u8 = 0b1110_0000;
 
-pub const HYSTERESIS_KEPT: u8 = 0x1F;
+// Of 21.
+pub const HYSTERESIS_KEPT: u8 = 0b0001_1111;
 
-pub const FILTER_ALERT_KEPT: u8 = 0x07;
+// Of BF.
+pub const FILTER_ALERT_KEPT: u8 = 0b0000_0111;
+
+// Of all others.
+pub const ALL_KEPT: u8 = 0b1111_1111;

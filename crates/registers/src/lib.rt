@@ -1,12 +1,11 @@
-// The registers: which are readable and writable, the fourteen settable bytes, kept bits and power-on bytes.
+// The registers: which are readable and writable, the fourteen settable bytes, kept bits and power-on bytes. What a number is asked
+// for stands in the rows of `page`.
 ghost use mathlib.Core.Path.{_≡_};
-ghost use mathlib.Core.Bool.{_&&_, not, cond};
-ghost use Prim.Native.Nat.{_<_, _+_, _/_, _%_, _^_};
-ghost use lib.Dec.{eqb, ltb, leb};
-ghost use lib.Bits.{bitAnd};
+ghost use Rattle.registers.specs.Rows.{placedOf};
 ghost use Rattle.registers.specs.Page.{readableOf, writableOf, knownOf, writePositionOf, readPositionOf, keptOf, powerOnOf, readOnlyOf, addressOf};
 
 pub mod bits;
+mod page;
 
 // Where a settable register's byte stands among the fourteen.
 pub enum Position {
@@ -40,7 +39,7 @@ pub const HYSTERESIS: usize = 12;
 
 pub const FILTER_ALERT: usize = 13;
 
-// Numbers of registers that are no settings: the readings, status and the one-shot.
+// Numbers of registers that are no settings: the readings, status, the one-shot, manufacturer and die revision.
 pub const LOCAL: u8 = 0x00;
 
 pub const REMOTE: u8 = 0x01;
@@ -51,94 +50,63 @@ pub const ONE_SHOT: u8 = 0x0F;
 
 pub const REMOTE_PART: u8 = 0x10;
 
-// Bit `reg` of a set of registers below 40.
-fn listed(set: u64, reg: u8) -> bool
-    ensures { λ r. ⌜ r ≡ (ltb reg 0x40 && not (eqb (bitAnd (set / 2 ^ (reg % 0x40)) 1) 0)) ⌝ }
-{
-    (reg < 0x40) & ((set >> (reg % 0x40)) & 1 != 0)
-}
+pub const MANUFACTURER: u8 = 0xFE;
 
-// A mask where it is on, all bits where it is not.
-fn only(on: bool, mask: u8) -> u8
-    ensures { λ r. ⌜ r ≡ cond on mask 0xFF ⌝ }
-{
-    if on { mask } else { 0xFF }
-}
+pub const DIE_REVISION: u8 = 0xFF;
 
-fn shift(on: bool, n: u8) -> u8
-    requires { ⌜ n < 16 ⌝ }
-    ensures { λ r. ⌜ r ≡ cond on n 0 ⌝ }
-    ensures { λ r. ⌜ r < 16 ⌝ }
-{
-    if on { n } else { 0 }
-}
-
-// A settable register's place among the fourteen, modulo 16: its number less the numbers that the page skips below it. Below
-// 10 the shift is `low`.
-fn place(reg: u8, low: u8) -> u8
-    requires { ⌜ low < 16 ⌝ }
-    ensures { λ r. ⌜ r ≡ (reg % 16 + cond (ltb reg 0x10) low 0 + cond (leb 0x10 reg) 5 0 + cond (leb 0x15 reg) 12 0 + cond (leb 0x20 reg) 10 0 + cond (leb 0x30 reg) 3 0) % 16 ⌝ }
-{
-    (reg % 16
-        + shift(reg < 0x10, low)
-        + shift(0x10 <= reg, 5)
-        + shift(0x15 <= reg, 12)
-        + shift(0x20 <= reg, 10)
-        + shift(0x30 <= reg, 3))
-        % 16
-}
-
-// 00 to 08, 10 to 14, 19, 20, 21, BF, FE, FF.
+// In R.
 pub fn readable(reg: u8) -> bool
     ensures { λ r. ⌜ r ≡ readableOf reg ⌝ }
 {
-    listed(0x3021F01FF, reg) | (reg == 0xBF) | (0xFE <= reg)
+    page::row_of(reg).0 & page::reading(reg) != 0
 }
 
-// 09 to 0F, 11 to 14, 19, 20, 21, BF.
+// In W.
 pub fn writable(reg: u8) -> bool
     ensures { λ r. ⌜ r ≡ writableOf reg ⌝ }
 {
-    listed(0x3021EFE00, reg) | (reg == 0xBF)
+    page::row_of(reg).0 & page::writing(reg) != 0
 }
 
 // In R or W.
 pub fn known(reg: u8) -> bool
     ensures { λ r. ⌜ r ≡ knownOf reg ⌝ }
 {
-    listed(0x3021FFFFF, reg) | (reg == 0xBF) | (0xFE <= reg)
+    page::row_of(reg).0 != page::NONE
 }
 
-// 09 to 0E are the first six.
+// A row's place, where the test holds.
+fn placed(on: bool, place: u8) -> Position
+    ensures { λ r. ⌜ r ≡ placedOf on place ⌝ }
+{
+    if on & (place < page::NOWHERE) {
+        Position::At(place)
+    } else {
+        Position::Nowhere
+    }
+}
+
+// Of the register that is written at `reg`.
 pub fn write_position(reg: u8) -> Position
     ensures { λ r. ⌜ r ≡ writePositionOf reg ⌝ }
 {
-    if listed(0x3021E7E00, reg) | (reg == 0xBF) {
-        Position::At(place(reg, 7))
-    } else {
-        Position::Nowhere
-    }
+    let row = page::row_of(reg);
+    placed(row.0 & page::writing(reg) != 0, row.1)
 }
 
-// 03 to 08 are the first six.
+// Of the register that is read at `reg`.
 pub fn read_position(reg: u8) -> Position
     ensures { λ r. ⌜ r ≡ readPositionOf reg ⌝ }
 {
-    if listed(0x3021E01F8, reg) | (reg == 0xBF) {
-        Position::At(place(reg, 13))
-    } else {
-        Position::Nowhere
-    }
+    let row = page::row_of(reg);
+    placed(row.0 & page::reading(reg) != 0, row.1)
 }
 
 // The bits that a register keeps, by either of its numbers.
 pub fn kept(reg: u8) -> u8
     ensures { λ r. ⌜ r ≡ keptOf reg ⌝ }
 {
-    only((reg == 0x03) | (reg == 0x09), bits::CONFIGURATION_KEPT)
-        & only((0x12 <= reg) & (reg <= 0x14), bits::PART_KEPT)
-        & only(reg == 0x21, bits::HYSTERESIS_KEPT)
-        & only(reg == 0xBF, bits::FILTER_ALERT_KEPT)
+    page::row_of(reg).2
 }
 
 // The fourteen bytes at power-on; none but variants 1 to 3 has a table.
@@ -153,16 +121,16 @@ pub fn power_on(variant: u8) -> [u8; 14]
     }
 }
 
-// A read-only register at power-on, and FE and FF for ever.
+// A read-only register at power-on, and manufacturer and die revision for ever.
 pub fn read_only(variant: u8, reg: u8) -> u8
     ensures { λ r. ⌜ r ≡ readOnlyOf variant reg ⌝ }
 {
     match reg {
-        0xFE => match variant {
+        MANUFACTURER => match variant {
             1..=3 => 0x01,
             _ => 0,
         },
-        0xFF => match variant {
+        DIE_REVISION => match variant {
             1 => 0x31,
             2 => 0x34,
             3 => 0x35,
