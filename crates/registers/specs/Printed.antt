@@ -90,3 +90,20 @@ write-rights = refl
 pub known : map knownOf (0x02 ∷ 0x09 ∷ 0x0F ∷ 0xB0 ∷ []) ≡ true ∷ true ∷ true ∷ false ∷ []
 unfolding knownOf readableOf writableOf
 known = refl
+
+-- both sides of the page's gaps: 15 to 18, 1A to 1F, 22 to AF with the test registers behind it, C0 to FD
+pub gaps : map knownOf (0x14 ∷ 0x15 ∷ 0x18 ∷ 0x19 ∷ 0x1A ∷ 0x1F ∷ 0x20 ∷ 0x21 ∷ 0x22 ∷ 0xAF ∷ 0xB0 ∷ 0xBE ∷ 0xBF ∷ 0xC0 ∷ 0xFD ∷ 0xFE ∷ [])
+    ≡ true ∷ false ∷ false ∷ true ∷ false ∷ false ∷ true ∷ true ∷ false ∷ false ∷ false ∷ false ∷ true ∷ false ∷ false ∷ true ∷ []
+unfolding knownOf readableOf writableOf
+gaps = refl
+
+-- where the page goes from read addresses to write addresses, to one of each alone, and to addresses that are both
+pub read-edges : map readableOf (0x02 ∷ 0x03 ∷ 0x08 ∷ 0x09 ∷ 0x0E ∷ 0x0F ∷ 0x10 ∷ 0x11 ∷ [])
+    ≡ true ∷ true ∷ true ∷ false ∷ false ∷ false ∷ true ∷ true ∷ []
+unfolding readableOf
+read-edges = refl
+
+pub write-edges : map writableOf (0x02 ∷ 0x03 ∷ 0x08 ∷ 0x09 ∷ 0x0E ∷ 0x0F ∷ 0x10 ∷ 0x11 ∷ [])
+    ≡ false ∷ false ∷ false ∷ true ∷ true ∷ true ∷ false ∷ true ∷ []
+unfolding writableOf
+write-edges = refl
