@@ -135,11 +135,11 @@ def without_functions(text):
 
 
 def used(line, body):
-    """Whether what a `use` line brings in is a type or a constant that is still named; functions and modules are not."""
+    """Whether what a `use` line brings in is still named: a type or a constant, or a module whose constants are; functions are not."""
     name = re.split(r"::| as ", line.rstrip("; "))[-1].strip()
     if "{" in line:
         raise Bad(f"a `use` of several names, which this test cannot read: {line}")
-    return name[0].isupper() and re.search(rf"\b{name}\b", body)
+    return re.search(rf"\b{name}\b" if name[0].isupper() else rf"\b{name}::", body)
 
 
 def strip(crate, laws):

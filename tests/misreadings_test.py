@@ -12,6 +12,7 @@ use super::Device;
 use super::variant;
 use super::outputs;
 use registers::STATUS;
+use registers::bits;
 
 pub mod bus;
 
@@ -23,6 +24,8 @@ pub struct Pair {
 }
 
 const SIZE: usize = 14;
+
+const KEPT: u8 = bits::ALL_KEPT;
 
 // A step.
 #[no_mangle]
@@ -43,6 +46,7 @@ fn last(d: Device) -> u8
 """
 STRIPPED = """// A file.
 use super::Device;
+use registers::bits;
 
 pub mod bus;
 
@@ -54,6 +58,8 @@ pub struct Pair {
 }
 
 const SIZE: usize = 14;
+
+const KEPT: u8 = bits::ALL_KEPT;
 """
 LAWS = """-- a limit
 abbrev pub aboveOf : ℤ → ℤ → Bool
