@@ -71,7 +71,7 @@ pub(crate) fn row_of(reg: u8) -> Row
 // The lowest write address of the page. The six registers with two addresses are read below it, at 03h to 08h, and written from it on, at 09h to 0Eh.
 const LOWEST_WRITE_ADDRESS: u8 = 0x09;
 
-// The sorts of access that are read at this address.
+// The sorts of access that are read at this address: a register is, if its sort and this have a bit in common.
 pub(crate) fn reading(reg: u8) -> u8
     ensures { λ r. ⌜ r ≡ readingOf reg ⌝ }
 {
@@ -82,7 +82,7 @@ pub(crate) fn reading(reg: u8) -> u8
     }
 }
 
-// The sorts of access that are written at this address.
+// The sorts of access that are written at this address, likewise.
 pub(crate) fn writing(reg: u8) -> u8
     ensures { λ r. ⌜ r ≡ writingOf reg ⌝ }
 {
