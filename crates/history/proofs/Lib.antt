@@ -1,0 +1,5 @@
+pub mod WithoutD7
+pub mod Verdicts
+pub mod Follows
+pub mod Rows
+pub mod Fronts

@@ -1,0 +1,3 @@
+pub mod Account
+pub mod Verdict
+pub mod Latches
