@@ -7,9 +7,9 @@ use mathlib.Core.Bool.{Bool, true, false, not, cond, _||_, _&&_}
 use mathlib.Core.List.{List, [], _∷_, _++_}
 use Prim.Native.Nat.{ℕ, zero, suc, _+_, _*_, _≤_}
 use native.Mathlib.Omega.{arith}
-use lib.Dec.{eqb}
-use lib.ListN.{length, getD, take, drop, length-take}
-use lib.Seq.{take-take, take-all}
+use lib.Dec.{eqb, ltb}
+use lib.ListN.{length, getD, take, drop, length-take, take-append-drop}
+use lib.Seq.{take-take, take-all, take-at, length-take-le}
 use borrow.Author.Tests.{eqb-true, eqb-false}
 use Rattle.laws.proofs.Choices.{by-test, clash}
 use Rattle.registers.specs.Page.{addressOf}
@@ -17,10 +17,22 @@ use Rattle.device.specs.declared.Event.{Event}
 use Rattle.device.specs.Ranges.{variantOf}
 use Rattle.record.specs.declared.Record.{Record}
 use Rattle.record.specs.declared.Record.the-variants.{Valid, Refused}
-use Rattle.capture.specs.Whole.{Whole, Quad, quads, quadOf, number, recordCountOf, secondVariantOf, variantsOf, wholeOf}
+use Rattle.record.specs.declared.Refusal.the-variants.{Kind, Operand}
+use Rattle.record.specs.Record.{codeOf}
+use Rattle.pair.specs.declared.Bus.{Bus}
+use Rattle.pair.specs.Bus.{answersOf}
+use Rattle.capture.specs.Reader.{Out, freshOf}
+use Rattle.capture.specs.Whole.{Whole, Quad, quads, over, quadOf, number, onRecord, thenOf, refusesOf, recording}
+use Rattle.capture.specs.Whole.{recordsOf, recordCountOf, secondVariantOf, variantsOf, wholeOf}
 use Rattle.capture_laws.specs.Events.{eventThen, eventsIn, eventsOf, variantsIn, busIn}
-use Rattle.history.specs.Account.{ownerIn}
-use Rattle.history.specs.Latches.{recordCount, front}
+use Rattle.capture_laws.specs.Schedule.{after}
+use Rattle.capture_laws.proofs.Run.{runOf, run-append, run-held}
+use Rattle.capture_laws.proofs.Sections.{whole-run}
+use Rattle.capture_laws.proofs.Cuts.{whole-call}
+use Rattle.capture_laws.proofs.Places.{stands}
+use Rattle.capture_laws.proofs.Fours.{run-even, run-code}
+use Rattle.capture_laws.proofs.Stepping.{step-by-step}
+use Rattle.history.specs.Latches.{Accepted, Reached, recordCount, front}
 
 -- ---- a complete header
 
@@ -75,17 +87,18 @@ seven k = omega arith
 
 quads-front : (k : ℕ) (l : List ℕ) → quads (take (k * 4) l) ≡ take k (quads l)
 quads-front zero l = refl
-quads-front (suc k) l = rw (four k) (behind l)
+quads-front (suc k) l = rw (four k) (behind l (quads-front k))
   where
     four : (k : ℕ) → suc k * 4 ≡ suc (suc (suc (suc (k * 4))))
     four k = omega arith
 
-    behind : (l : List ℕ) → quads (take (suc (suc (suc (suc (k * 4))))) l) ≡ take (suc k) (quads l)
-    behind [] = refl
-    behind (x ∷ []) = refl
-    behind (x ∷ a ∷ []) = refl
-    behind (x ∷ a ∷ b ∷ []) = refl
-    behind (x ∷ a ∷ b ∷ c ∷ l) = ap (λ (qs : List Quad). record { kind = x; a = a; b = b; c = c } ∷ qs) (quads-front k l)
+    behind : (l : List ℕ) → ((m : List ℕ) → quads (take (k * 4) m) ≡ take k (quads m))
+        → quads (take (suc (suc (suc (suc (k * 4))))) l) ≡ take (suc k) (quads l)
+    behind [] rest = refl
+    behind (x ∷ []) rest = refl
+    behind (x ∷ a ∷ []) rest = refl
+    behind (x ∷ a ∷ b ∷ []) rest = refl
+    behind (x ∷ a ∷ b ∷ c ∷ l) rest = ap (λ (qs : List Quad). record { kind = x; a = a; b = b; c = c } ∷ qs) (rest l)
 
 events-front : (devices k : ℕ) (qs : List Quad) → eventsIn devices (take k qs) ≡ take k (eventsIn devices qs)
 events-front devices zero qs = refl
@@ -119,3 +132,111 @@ pub front-events : {xs : List ℕ} → Headed xs → (k : ℕ) → k ≤ recordC
 unfolding eventsOf
 front-events (one v a b c d l known) k h = rw (six k, known) (counted-front 1 (number 0 (a ∷ b ∷ c ∷ d ∷ [])) k l h)
 front-events (two v w a b c d l known other apart) k h = rw (seven k, known, other, apart) (counted-front 2 (number 0 (a ∷ b ∷ c ∷ d ∷ [])) k l h)
+
+pub bus-devices : {xs : List ℕ} → Headed xs → busIn xs .devices ≡ getD xs 0 0
+unfolding busIn variantsIn
+bus-devices (one v a b c d l known) = rw known
+bus-devices (two v w a b c d l known other apart) = rw (known, other, apart)
+
+-- ---- the counted end
+
+-- a finishing code of 0: every counted record is done, and four bytes are consumed for each
+record AtEnd (w : Whole) (n k : ℕ) : Type 0 where
+  done : w .reader .done ≡ n
+  consumed : k * 4 + w .consumed ≡ n * 4
+
+at-end : (n k : ℕ) (p : Bus) (qs : List Quad) (l : List ℕ) → recordsOf n k p qs l .finishing ≡ 0 → AtEnd (recordsOf n k p qs l) n k
+unfolding recordsOf codeOf
+at-end n k p [] [] z =
+    by-test (eqb k n)
+    (λ e. let same = eqb-true k n e in record { done = same; consumed = omega arith })
+    (λ e. absurd (omega (arith, rw e at z)))
+at-end n k p [] (x ∷ l) z = by-test (ltb k n) (λ e. absurd (omega (arith, rw e at z))) (λ e. absurd (omega (arith, rw e at z)))
+at-end n k p (q ∷ qs) l z =
+    by-test (ltb k n)
+    (λ e. rw e (judge (quadOf (p .devices) q) (λ v. at-end n (k + 1) (answersOf p v .bus) qs l) (rw e at z)))
+    (λ e. absurd (omega (arith, rw e at z)))
+  where
+    rest : Event → Whole
+    rest v = recordsOf n (k + 1) (answersOf p v .bus) qs l
+
+    step : Event → Whole
+    step v = thenOf 4 (answersOf p v .first ∷ answersOf p v .second ∷ []) (rest v)
+
+    refuse : ℕ → Whole
+    refuse code = thenOf 3 [] (refusesOf (recording n k p (q .kind ∷ q .a ∷ q .b ∷ [])) code)
+
+    judge : (r : Record) → ((v : Event) → rest v .finishing ≡ 0 → AtEnd (rest v) n (k + 1)) → onRecord r step refuse .finishing ≡ 0
+        → AtEnd (onRecord r step refuse) n k
+    judge (Valid v) more z = let e = more v z in record { done = e .done; consumed = omega (arith, e .consumed) }
+    judge (Refused Kind) more z = absurd (omega arith)
+    judge (Refused Operand) more z = absurd (omega arith)
+
+-- every counted record is done, and the header and the counted records are what is consumed
+record Complete (xs : List ℕ) : Type 0 where
+  done : wholeOf xs .reader .done ≡ recordCount xs
+  consumed : wholeOf xs .consumed ≡ 5 + getD xs 0 0 + recordCount xs * 4
+
+complete : {xs : List ℕ} → Headed xs → wholeOf xs .finishing ≡ 0 → Complete xs
+unfolding wholeOf variantsOf secondVariantOf recordCountOf
+complete (one v a b c d l known) z =
+    let e = at-end _ 0 _ (quads l) (over l) (rw known at z) in
+    record { done = rw known (e .done); consumed = rw known (omega (arith, e .consumed)) }
+complete (two v w a b c d l known other apart) z =
+    let e = at-end _ 0 _ (quads l) (over l) (rw (known, other, apart) at z) in
+    record { done = rw (known, other, apart) (e .done); consumed = rw (known, other, apart) (omega (arith, e .consumed)) }
+
+-- ---- accepted
+
+module _ (xs : List ℕ) (accepted : Accepted xs) where
+  pub header : Headed xs
+  header = headed xs (accepted .finishing)
+
+  end : Complete xs
+  end = complete header (accepted .finishing)
+
+  -- every counted record has its event
+  pub events-counted : length (eventsOf xs) ≡ recordCount xs
+  events-counted = sym (step-by-step xs .done) ∙ end .done
+
+  pub all : front xs (recordCount xs) ≡ xs
+  all =
+      let room = length (wholeOf xs .answers) in
+      let size = rw (whole-call xs room (omega arith)) at (stands freshOf xs room) .done (accepted .code) in
+      take-all (5 + getD xs 0 0 + recordCount xs * 4) xs (omega (arith, size, end .consumed))
+
+  module _ (k : ℕ) (few : k ≤ recordCount xs) where
+    done-front : wholeOf (front xs k) .reader .done ≡ k
+    done-front =
+        step-by-step (front xs k) .done
+        ∙ ap length (front-events header k few)
+        ∙ length-take-le k (eventsOf xs) (omega (arith, events-counted))
+
+    -- the run over the front, and the rest of the run
+    cut : runOf freshOf xs ≡ after (runOf freshOf (front xs k)) (runOf (runOf freshOf (front xs k) .reader) (drop (5 + getD xs 0 0 + k * 4) xs))
+    cut = ap (runOf freshOf) (sym (take-append-drop (5 + getD xs 0 0 + k * 4) xs)) ∙ run-append freshOf (front xs k) (drop (5 + getD xs 0 0 + k * 4) xs)
+
+    -- a code that it held would be the capture's
+    none-held : runOf freshOf (front xs k) .reader .held ≡ 0
+    none-held =
+        let s = runOf freshOf (front xs k) .reader in
+        by-test (eqb (s .held) 0)
+        (λ z. eqb-true (s .held) 0 z)
+        (λ n.
+        let held = eqb-false (s .held) 0 n in
+        let code : runOf freshOf xs .code ≡ s .held = ap (λ (o : Out). o .code) cut ∙ ap (λ (o : Out). o .code) (run-held s _ held) in
+        absurd (held (sym code ∙ ap (λ (o : Out). o .code) (whole-run xs) ∙ accepted .code)))
+
+    pub reached : Reached xs k
+    reached =
+        let f = front xs k in
+        let run = whole-run f in
+        let whole : wholeOf xs .answers ≡ runOf freshOf f .answers ++ runOf (runOf freshOf f .reader) (drop (5 + getD xs 0 0 + k * 4) xs) .answers =
+        ap (λ (o : Out). o .answers) (sym (whole-run xs) ∙ cut) in
+        let two : length (runOf freshOf f .answers) ≡ k * 2 =
+        omega (arith, run-even freshOf f, ap (λ (o : Out). o .reader .done) run, done-front) in
+        record {
+          code = ap (λ (o : Out). o .code) (sym run) ∙ run-code freshOf f ∙ none-held;
+          done = done-front;
+          answers = ap (λ (o : Out). o .answers) (sym run) ∙ sym (ap (take (k * 2)) whole ∙ take-at (runOf freshOf f .answers) _ (k * 2) two);
+        }

@@ -3,3 +3,5 @@ pub mod Verdicts
 pub mod Follows
 pub mod Rows
 pub mod Fronts
+pub mod History
+pub mod Pin
