@@ -4,4 +4,6 @@ pub mod Follows
 pub mod Rows
 pub mod Fronts
 pub mod History
+pub mod Answers
 pub mod Pin
+pub mod Quiet

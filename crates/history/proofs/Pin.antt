@@ -33,27 +33,8 @@ use Rattle.history.specs.Latches.{Accepted, recordCount, front, stateAft
 use Rattle.history.proofs.WithoutD7.{low-bit}
 use Rattle.history.proofs.Verdicts.{verdict}
 use Rattle.history.proofs.Follows.{Follows}
-use Rattle.history.proofs.Fronts.{header, front-bus, front-events, bus-devices, events-counted}
 use Rattle.history.proofs.History.{follows}
-
--- ---- D1 of an answer is the line after its record
-
-first-bit : (pins : Pins) (acknowledged taken held : Bool) → has (firstOf pins acknowledged taken held) 0x02 ≡ pins .tcrit
-unfolding firstOf
-first-bit pins acknowledged taken held = simp (has-or, bit-of) (simp (and-false, and-true, or-false))
-
-answer-line : (p : Bus) (es : List Event) (k : ℕ) → k < length es
-    → has (getD (answeredBytes (busAnswers p es)) (k * 2) 0) 0x02 ≡ linesOf (busAfter p (take (suc k) es)) .tcrit
-unfolding busAnswerOf
-answer-line p [] k h = absurd (omega arith)
-answer-line p (e ∷ es) zero h = let o = busEffectOf p e in first-bit (linesOf (o .bus)) (o .acknowledged) (o .taken) (o .held)
-answer-line p (e ∷ es) (suc k) h =
-    let two : suc k * 2 ≡ suc (suc (k * 2)) = omega arith in
-    rw two (answer-line (busEffectOf p e .bus) es k (omega arith))
-
-after-devices : (p : Bus) (es : List Event) → busAfter p es .devices ≡ p .devices
-after-devices p [] = refl
-after-devices p (e ∷ es) = after-devices (busEffectOf p e .bus) es ∙ same-count p e
+use Rattle.history.proofs.Answers.{bus-after, on-bus, answer, answer-byte, answer-tcrit}
 
 -- ---- T_CRIT_A of a device, by its account
 
@@ -102,23 +83,12 @@ module _ {o : Owner} {d : Device} {a : Account} (f : Follows o d a) where
 -- ---- of an accepted capture
 
 module _ (xs : List ℕ) (accepted : Accepted xs) where
-  -- the bus after the first k records
-  bus-after : (k : ℕ) → k ≤ recordCount xs → stateAfter xs k .bus ≡ busAfter (busIn xs) (take k (eventsOf xs))
-  bus-after k few =
-      let h = header xs accepted in
-      step-by-step (front xs k) .bus ∙ rw (front-bus h k, front-events h k few)
-
-  on-bus : (k : ℕ) → k ≤ recordCount xs → (second : Bool) → presentOf (stateAfter xs k .bus) second ≡ onBus xs second
-  on-bus k few second =
-      ap (λ (n : ℕ). not second || eqb n 2)
-      (ap (λ (p : Bus). p .devices) (bus-after k few) ∙ after-devices (busIn xs) (take k (eventsOf xs)) ∙ bus-devices (header xs accepted))
-
   line : (k : ℕ) → k ≤ recordCount xs → (linesOf (stateAfter xs k .bus) .tcrit ≡ true) ↔ PulledBy xs k
   line k few = (λ h. told (tcrit-line (stateAfter xs k .bus) .0 h), λ b. tcrit-line (stateAfter xs k .bus) .1 (shown b))
     where
       told : Pulled tcritOf (stateAfter xs k .bus) → PulledBy xs k
       told p =
-          let there = sym (on-bus k few (p .second)) ∙ p .present in
+          let there = sym (on-bus xs accepted k few (p .second)) ∙ p .present in
           let s = some-channel (follows xs accepted k few (p .second) there) (p .pulls) in
           record {
             second = p .second;
@@ -133,15 +103,19 @@ module _ (xs : List ℕ) (accepted : Accepted xs) where
           let f = follows xs accepted k few (b .second) (b .there) in
           record {
             second = b .second;
-            present = on-bus k few (b .second) ∙ b .there;
+            present = on-bus xs accepted k few (b .second) ∙ b .there;
             pulls = by-channel f (b .channel) (verdict (b .channel) _ .1 (b .set)) (b .unmasked);
           }
 
   -- of record number k + 1
   pub pin : (k : ℕ) → k < recordCount xs → (has (getD (wholeOf xs .answers) (k * 2) 0) 0x02 ≡ true) ↔ PulledBy xs (suc k)
   pin k few =
+      let after : busEffectOf (stateAfter xs k .bus) (answer xs accepted k few .event) .bus ≡ stateAfter xs (suc k) .bus =
+      ap (λ (p : Bus). busEffectOf p (answer xs accepted k few .event) .bus) (bus-after xs accepted k (omega arith))
+      ∙ sym (answer xs accepted k few .bus)
+      ∙ sym (bus-after xs accepted (suc k) (omega arith)) in
       let same : has (getD (wholeOf xs .answers) (k * 2) 0) 0x02 ≡ linesOf (stateAfter xs (suc k) .bus) .tcrit =
-      ap (λ (l : List ℕ). has (getD l (k * 2) 0) 0x02) (step-by-step xs .answers)
-      ∙ answer-line (busIn xs) (eventsOf xs) k (omega (arith, few, events-counted xs accepted))
-      ∙ ap (λ (p : Bus). linesOf p .tcrit) (sym (bus-after (suc k) (omega arith))) in
+      ap (λ (b : ℕ). has b 0x02) (answer-byte xs accepted k few)
+      ∙ answer-tcrit (busEffectOf (stateAfter xs k .bus) (answer xs accepted k few .event))
+      ∙ ap (λ (p : Bus). linesOf p .tcrit) after in
       rw same (line (suc k) (omega arith))

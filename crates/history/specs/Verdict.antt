@@ -6,10 +6,15 @@ use mathlib.Core.Path.{_≡_}
 use mathlib.Core.Bool.{Bool, true, false, not, _||_, _&&_}
 use mathlib.Core.List.{List, [], _∷_, _++_}
 use lib.IntN.{ℤ}
+use lib.ListN.{drop}
 use Rattle.temperature.specs.Temperature.{eighthsOf, aboveOf, clearedOf}
 use Rattle.registers.specs.Bits.{has, localMask, remoteMask}
 use Rattle.registers.specs.Page.{settingOf}
 use Rattle.conversion.specs.Conversion.{queuedOf}
+use Rattle.device.specs.declared.Event.{Event}
+use Rattle.device.specs.declared.Event.the-variants.{Write, Read, Send, Receive, Convert, Open, PowerOn, ConvertSecond, OpenSecond}
+use Rattle.pair_laws.specs.Devices.{conversionOf, isPowerOn}
+use Rattle.capture_laws.specs.Events.{eventsOf}
 use Rattle.history.specs.Account.{Taken, Account, accountOf, onBus}
 
 -- ---- the two channels
@@ -76,6 +81,29 @@ latestLive ch (t ∷ ts) = liveAt ch t
 -- of a device of a capture, after the first k records
 abbrev pub verdictAfter : List ℕ → Bool → ℕ → Channel → Bool
 verdictAfter capture second k ch = verdictOf ch (accountOf capture second k .taken)
+
+-- ---- what moves a verdict
+
+-- a conversion of the device, or a power-on
+abbrev pub movesVerdict : Bool → Event → Bool
+movesVerdict second e = conversionOf second e || isPowerOn e
+
+-- kinds 02 to 04: a status read, by read byte or by pointer, and the alert response are among them
+abbrev pub onlyReads : Event → Bool
+onlyReads (Write a w v) = false
+onlyReads (Read a r) = true
+onlyReads (Send a r) = true
+onlyReads (Receive a) = true
+onlyReads (Convert local high low) = false
+onlyReads (Open local) = false
+onlyReads PowerOn = false
+onlyReads (ConvertSecond local high low) = false
+onlyReads (OpenSecond local) = false
+
+-- record number k + 1 of a capture is this event
+pub record Next (capture : List ℕ) (k : ℕ) (e : Event) : Type 0 where
+  pub rest : List Event
+  pub is : drop k (eventsOf capture) ≡ e ∷ rest
 
 -- ---- T_CRIT_A
 
