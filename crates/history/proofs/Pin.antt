@@ -1,48 +1,33 @@
--- Request e, T_CRIT_A: `pin`, D1 of a record's answer is set exactly if, after that record, some device on the bus has a channel that is not masked
--- in the settings in force and that its account calls set.
+-- Request e, T_CRIT_A. `pin`: D1 of a record's answer is what the accounts and the masks in force after that record say. `pulled`: that is, some
+-- device on the bus has a channel that is not masked and that is set by its account. `pin-exactly`: both joined.
 -- Assumes nothing.
 use mathlib.Core.Path.{_≡_, refl, sym, ap, _∙_}
 use mathlib.Core.Logic.{_↔_}
-use mathlib.Core.Bool.{Bool, true, false, not, cond, _||_, _&&_, and-true, and-false, or-false}
-use mathlib.Core.List.{List, [], _∷_}
-use Prim.Native.Nat.{ℕ, zero, suc, _*_, _≤_, _<_}
+use mathlib.Core.Bool.{Bool, true, false, not, _||_, _&&_, or-false}
+use mathlib.Core.List.{List}
+use Prim.Native.Nat.{ℕ, suc, _*_, _≤_, _<_}
 use native.Mathlib.Omega.{arith}
-use lib.Dec.{eqb}
-use lib.ListN.{length, getD, take}
+use lib.ListN.{getD}
 use Rattle.laws.proofs.Choices.{by-test, and-left, and-right, or-left, or-right, clash}
 use Rattle.registers.specs.Bits.{has}
 use Rattle.registers.specs.Page.{settingOf}
 use Rattle.device.specs.declared.Device.{Device}
-use Rattle.device.specs.declared.Event.{Event}
-use Rattle.device.specs.declared.Pins.{Pins}
-use Rattle.device.specs.Pins.{configurationOf, tcritOf, firstOf}
-use Rattle.device_laws.proofs.Bits.{has-or, bit-of}
+use Rattle.device.specs.Pins.{configurationOf, tcritOf, pinsOf}
 use Rattle.pair.specs.declared.Bus.{Bus}
-use Rattle.pair.specs.Bus.{pickedOf, busEffectOf, linesOf, busAnswerOf}
-use Rattle.pair.proofs.Kept.{same-count}
-use Rattle.pair_laws.specs.Devices.{presentOf}
-use Rattle.pair_laws.specs.Lines.{Pulled}
-use Rattle.pair_laws.specs.Seen.{busAfter, busAnswers}
-use Rattle.pair_laws.proofs.Lines.{tcrit-line}
+use Rattle.pair.specs.Bus.{twoOf, busEffectOf, linesOf}
 use Rattle.capture.specs.Whole.{wholeOf}
-use Rattle.capture_laws.specs.Events.{eventsOf, busIn, answeredBytes}
-use Rattle.capture_laws.proofs.Stepping.{step-by-step}
 use Rattle.history.specs.Account.{InForce, Account, Owner, accountOf, onBus}
-use Rattle.history.specs.Verdict.{Channel, localChannel, remoteChannel, maskOf, verdictOf, maskedIn, PulledBy}
-use Rattle.history.specs.Latches.{Accepted, recordCount, front, stateAfter, latchOf}
+use Rattle.history.specs.Verdict.{Channel, localChannel, remoteChannel, maskOf, verdictOf, maskedIn, pullsIn, pullsBy, pulledAfter, PulledBy}
+use Rattle.history.specs.Latches.{Accepted, recordCount, stateAfter}
 use Rattle.history.proofs.WithoutD7.{low-bit}
 use Rattle.history.proofs.Verdicts.{verdict}
 use Rattle.history.proofs.Follows.{Follows}
 use Rattle.history.proofs.History.{follows}
 use Rattle.history.proofs.Answers.{bus-after, on-bus, answer, answer-byte, answer-tcrit}
 
--- ---- T_CRIT_A of a device, by its account
+-- ---- a device that follows its account
 
 module _ {o : Owner} {d : Device} {a : Account} (f : Follows o d a) where
-  -- the channel's latch is set and not masked
-  abbrev pulls : Channel → Bool
-  pulls ch = latchOf ch (d .sensed) && not (has (configurationOf d) (maskOf ch))
-
   small : (ch : Channel) → maskOf ch < 128
   small localChannel = omega arith
   small remoteChannel = omega arith
@@ -50,72 +35,85 @@ module _ {o : Owner} {d : Device} {a : Account} (f : Follows o d a) where
   mask : (ch : Channel) → has (configurationOf d) (maskOf ch) ≡ maskedIn ch a
   mask ch = sym (low-bit (d .settings) (maskOf ch) (small ch)) ∙ ap (λ (now : InForce). has (settingOf (now .settings) 0x03) (maskOf ch)) (f .inForce)
 
-  -- some channel pulls
-  pub record Some : Type 0 where
-    pub channel : Channel
-    pub called : verdictOf channel (a .taken) ≡ true
-    pub unmasked : maskedIn channel a ≡ false
+  by-device : tcritOf d ≡ pullsBy a
+  unfolding tcritOf
+  by-device = rw (f .latch localChannel, f .latch remoteChannel, mask localChannel, mask remoteChannel)
 
-  of-channel : (ch : Channel) → pulls ch ≡ true → Some
-  of-channel ch h =
+-- ---- the line of an accepted capture
+
+module _ (xs : List ℕ) (accepted : Accepted xs) where
+  line : (k : ℕ) → k ≤ recordCount xs → linesOf (stateAfter xs k .bus) .tcrit ≡ pulledAfter xs k
+  unfolding linesOf pinsOf
+  line k few =
+      let two = on-bus xs accepted k few true in
+      let one = by-device (follows xs accepted k few false refl) in
+      by-test (onBus xs true)
+      (λ t. rw (two ∙ t, t, one, by-device (follows xs accepted k few true t)))
+      (λ t. rw (two ∙ t, t, one) (sym (or-false (pullsBy (accountOf xs false k)))))
+
+  -- of record number k + 1
+  pub pin : (k : ℕ) → k < recordCount xs → has (getD (wholeOf xs .answers) (k * 2) 0) 0x02 ≡ pulledAfter xs (suc k)
+  pin k few =
+      let e = answer xs accepted k few .event in
+      let after : busEffectOf (stateAfter xs k .bus) e .bus ≡ stateAfter xs (suc k) .bus =
+      ap (λ (p : Bus). busEffectOf p e .bus) (bus-after xs accepted k (omega arith))
+      ∙ sym (answer xs accepted k few .bus)
+      ∙ sym (bus-after xs accepted (suc k) (omega arith)) in
+      ap (λ (b : ℕ). has b 0x02) (answer-byte xs accepted k few)
+      ∙ answer-tcrit (busEffectOf (stateAfter xs k .bus) e)
+      ∙ ap (λ (p : Bus). linesOf p .tcrit) after
+      ∙ line (suc k) (omega arith)
+
+-- ---- as a sentence
+
+module _ (xs : List ℕ) (k : ℕ) where
+  of-channel : (second : Bool) → onBus xs second ≡ true → (ch : Channel) → pullsIn (accountOf xs second k) ch ≡ true → PulledBy xs k
+  of-channel second there ch h =
+      let a = accountOf xs second k in
       record {
+        second = second;
+        there = there;
         channel = ch;
-        called = sym (f .latch ch) ∙ and-left (latchOf ch (d .sensed)) (not (has (configurationOf d) (maskOf ch))) h;
-        unmasked = sym (mask ch) ∙ clear (has (configurationOf d) (maskOf ch)) (and-right (latchOf ch (d .sensed)) _ h);
+        set = verdict ch (a .taken) .0 (and-left (verdictOf ch (a .taken)) (not (maskedIn ch a)) h);
+        unmasked = clear (maskedIn ch a) (and-right (verdictOf ch (a .taken)) (not (maskedIn ch a)) h);
       }
     where
       clear : (b : Bool) → not b ≡ true → b ≡ false
       clear true h = clash h
       clear false h = refl
 
-  pub some-channel : tcritOf d ≡ true → Some
-  unfolding tcritOf
-  some-channel h = by-test (pulls localChannel) (λ t. of-channel localChannel t) (λ t. of-channel remoteChannel (rw t at h))
+  of-device : (second : Bool) → onBus xs second ≡ true → pullsBy (accountOf xs second k) ≡ true → PulledBy xs k
+  of-device second there h =
+      by-test (pullsIn (accountOf xs second k) localChannel)
+      (λ t. of-channel second there localChannel t)
+      (λ t. of-channel second there remoteChannel (rw t at h))
 
-  pulled : (ch : Channel) → verdictOf ch (a .taken) ≡ true → maskedIn ch a ≡ false → pulls ch ≡ true
-  pulled ch v u = rw (f .latch ch ∙ v, mask ch ∙ u)
+  some-device : pulledAfter xs k ≡ true → PulledBy xs k
+  some-device h =
+      by-test (pullsBy (accountOf xs false k))
+      (λ t. of-device false refl t)
+      (λ t.
+      let b : (onBus xs true && pullsBy (accountOf xs true k)) ≡ true = rw t at h in
+      of-device true (and-left (onBus xs true) _ b) (and-right (onBus xs true) _ b))
 
-  pub by-channel : (ch : Channel) → verdictOf ch (a .taken) ≡ true → maskedIn ch a ≡ false → tcritOf d ≡ true
-  unfolding tcritOf
-  by-channel localChannel v u = or-left (pulls localChannel) (pulls remoteChannel) (pulled localChannel v u)
-  by-channel remoteChannel v u = or-right (pulls localChannel) (pulls remoteChannel) (pulled remoteChannel v u)
+  by-channel : (second : Bool) (ch : Channel) → pullsIn (accountOf xs second k) ch ≡ true → pullsBy (accountOf xs second k) ≡ true
+  by-channel second localChannel h = or-left _ (pullsIn (accountOf xs second k) remoteChannel) h
+  by-channel second remoteChannel h = or-right (pullsIn (accountOf xs second k) localChannel) _ h
 
--- ---- of an accepted capture
+  joined : (second : Bool) → onBus xs second ≡ true → pullsBy (accountOf xs second k) ≡ true → pulledAfter xs k ≡ true
+  joined false there h = or-left _ (onBus xs true && pullsBy (accountOf xs true k)) h
+  joined true there h = or-right (pullsBy (accountOf xs false k)) _ (rw (there, h))
 
-module _ (xs : List ℕ) (accepted : Accepted xs) where
-  line : (k : ℕ) → k ≤ recordCount xs → (linesOf (stateAfter xs k .bus) .tcrit ≡ true) ↔ PulledBy xs k
-  line k few = (λ h. told (tcrit-line (stateAfter xs k .bus) .0 h), λ b. tcrit-line (stateAfter xs k .bus) .1 (shown b))
-    where
-      told : Pulled tcritOf (stateAfter xs k .bus) → PulledBy xs k
-      told p =
-          let there = sym (on-bus xs accepted k few (p .second)) ∙ p .present in
-          let s = some-channel (follows xs accepted k few (p .second) there) (p .pulls) in
-          record {
-            second = p .second;
-            there = there;
-            channel = s .channel;
-            set = verdict (s .channel) _ .0 (s .called);
-            unmasked = s .unmasked;
-          }
+  pub pulled : (pulledAfter xs k ≡ true) ↔ PulledBy xs k
+  pulled = (
+    some-device,
+    λ b.
+        joined (b .second) (b .there)
+        (by-channel (b .second) (b .channel) (rw (verdict (b .channel) _ .1 (b .set), b .unmasked))),
+  )
 
-      shown : PulledBy xs k → Pulled tcritOf (stateAfter xs k .bus)
-      shown b =
-          let f = follows xs accepted k few (b .second) (b .there) in
-          record {
-            second = b .second;
-            present = on-bus xs accepted k few (b .second) ∙ b .there;
-            pulls = by-channel f (b .channel) (verdict (b .channel) _ .1 (b .set)) (b .unmasked);
-          }
-
-  -- of record number k + 1
-  pub pin : (k : ℕ) → k < recordCount xs → (has (getD (wholeOf xs .answers) (k * 2) 0) 0x02 ≡ true) ↔ PulledBy xs (suc k)
-  pin k few =
-      let after : busEffectOf (stateAfter xs k .bus) (answer xs accepted k few .event) .bus ≡ stateAfter xs (suc k) .bus =
-      ap (λ (p : Bus). busEffectOf p (answer xs accepted k few .event) .bus) (bus-after xs accepted k (omega arith))
-      ∙ sym (answer xs accepted k few .bus)
-      ∙ sym (bus-after xs accepted (suc k) (omega arith)) in
-      let same : has (getD (wholeOf xs .answers) (k * 2) 0) 0x02 ≡ linesOf (stateAfter xs (suc k) .bus) .tcrit =
-      ap (λ (b : ℕ). has b 0x02) (answer-byte xs accepted k few)
-      ∙ answer-tcrit (busEffectOf (stateAfter xs k .bus) (answer xs accepted k few .event))
-      ∙ ap (λ (p : Bus). linesOf p .tcrit) after in
-      rw same (line (suc k) (omega arith))
+pub pin-exactly : (xs : List ℕ) → Accepted xs → (k : ℕ) → k < recordCount xs
+    → (has (getD (wholeOf xs .answers) (k * 2) 0) 0x02 ≡ true) ↔ PulledBy xs (suc k)
+pin-exactly xs accepted k few =
+    let same = pin xs accepted k few in
+    (λ h. pulled xs (suc k) .0 (sym same ∙ h), λ b. same ∙ pulled xs (suc k) .1 b)

@@ -106,7 +106,7 @@ starts (n ∷ v ∷ xs) second =
 
 pub of-bytes : (xs : List ℕ) (second : Bool) → presentOf (busIn xs) second ≡ true
     → Follows (ownerIn xs second) (pickedOf (wholeOf xs .reader .bus) second)
-      (accountFrom (ownerIn xs second) 1 (startOf (ownerIn xs second .variant)) (eventsOf xs))
+    (accountFrom (ownerIn xs second) 1 (startOf (ownerIn xs second .variant)) (eventsOf xs))
 of-bytes xs second here =
     let o = ownerIn xs second in
     let s = step-by-step xs .each second here in

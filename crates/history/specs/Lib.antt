@@ -1,3 +1,5 @@
 pub mod Account
 pub mod Verdict
 pub mod Latches
+pub mod Opened
+pub mod Examples

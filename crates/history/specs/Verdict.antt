@@ -111,7 +111,18 @@ pub record Next (capture : List ℕ) (k : ℕ) (e : Event) : Type 0 where
 abbrev pub maskedIn : Channel → Account → Bool
 maskedIn ch a = has (settingOf (a .inForce .settings) 0x03) (maskOf ch)
 
--- P8, request c: some device on the bus has a channel that is not masked and that its account calls set
+-- P8: a channel of the device is called set and is not masked
+abbrev pub pullsIn : Account → Channel → Bool
+pullsIn a ch = verdictOf ch (a .taken) && not (maskedIn ch a)
+
+abbrev pub pullsBy : Account → Bool
+pullsBy a = pullsIn a localChannel || pullsIn a remoteChannel
+
+-- request c: the devices on the bus, joined, after the first k records
+abbrev pub pulledAfter : List ℕ → ℕ → Bool
+pulledAfter capture k = pullsBy (accountOf capture false k) || (onBus capture true && pullsBy (accountOf capture true k))
+
+-- the same, as a sentence: some device on the bus has a channel that is set by its account and not masked
 pub record PulledBy (capture : List ℕ) (k : ℕ) : Type 0 where
   pub second : Bool
   pub there : onBus capture second ≡ true

@@ -1,0 +1,179 @@
+#!/usr/bin/env python3
+"""Request e: the account takes records and settings only. Exits 1, and names the way, if a file of the account (crates/history/specs: Account.antt,
+Verdict.antt) imports or names a definition or a type that reaches the model's state or its effects: what FORBIDDEN lists, by whatever definitions and files.
+
+What a name reaches is followed definition by definition, through imports, constructors, and the fields of the program's own types. A name that is
+imported from a crate and not found there, an import of another form than `use MODULE.{NAMES}`, and a forbidden name that no longer exists are faults too.
+"""
+import pathlib
+import re
+import sys
+
+ROOT = pathlib.Path(__file__).resolve().parent.parent
+ACCOUNT = ("history/specs/Account.antt", "history/specs/Verdict.antt")
+# types of the program by CRATE::NAME, definitions by FILE: NAME
+FORBIDDEN = (
+    "conversion::Sensed", "device::Device", "device::Outcome", "device::Stepped", "device::Pins", "pair::Bus", "capture::Reader",
+    "conversion/specs/Conversion.antt: liveOf", "conversion/specs/Conversion.antt: latchOf", "conversion/specs/Conversion.antt: sensedOf",
+    "device/specs/Pins.antt: alertOf", "device/specs/Pins.antt: tcritOf", "device/specs/Bus.antt: statusReadOf", "device/specs/Step.antt: effectOf",
+    "pair/specs/Bus.antt: busEffectOf", "capture/specs/Whole.antt: wholeOf", "capture/specs/Reader.antt: turnOf",
+)
+USE = re.compile(r"use (\S+?)\.\{(.*)\}$")
+CRATE = re.compile(r"Rattle·(\w+)(?:·specs)?\.specs\.(.+)$")
+KEYWORDS = re.compile(r"(?:abbrev |unfoldable |pub |data |record )*")
+WORD = re.compile(r"(?<![^\s(){}\[\],;λ])[^\s(){}\[\],;.]+")
+LAYOUT = {"module", "infix", "infixl", "infixr", "unfolding", "where"}
+
+
+class Fault(Exception):
+    pass
+
+
+def words(text):
+    """The names that a text has; a projection, `x .field`, is none."""
+    return {word for word in WORD.findall(re.sub(r"\s\.[^\s(){}\[\],;.]+", " ", text))}
+
+
+class Specs:
+    """One file of definitions: what it imports, and the text of each of its definitions."""
+
+    def __init__(self, crates, name):
+        self.imports, self.texts, self.owner = {}, {}, {}
+        path = crates / name
+        if not path.is_file():
+            raise Fault(f"no file {path}")
+        header = ""
+        item = None
+        for line in path.read_text().split("\n"):
+            line = re.sub(r"(^|\s)--\s.*$", "", line).rstrip()
+            if not line:
+                continue
+            if line.startswith("use "):
+                self.read_use(name, line)
+                continue
+            if not line.startswith(" "):
+                header = ""
+            head = line.strip()
+            if head.startswith("module "):
+                header, item = head, None
+            elif self.begins(line, header):
+                item = KEYWORDS.sub("", head, count=1).split()[0]
+                self.add(item, item, f"{header}\n{head}")
+            elif item is not None:
+                self.add(item, item, head)
+                field = re.match(r"(?:pub )?(\S+) : ", head)
+                if field and re.match(r"(abbrev |unfoldable )?(pub )?data ", self.texts[item].strip()):
+                    self.owner[field.group(1)] = item
+
+    @staticmethod
+    def begins(line, header):
+        """A line at the margin, or at the margin of a module's body, begins or goes on with a definition."""
+        indent = len(line) - len(line.lstrip())
+        return indent == (2 if header else 0) and line.split()[0] not in LAYOUT
+
+    def read_use(self, name, line):
+        use = USE.match(line)
+        if not use or " as " in line:
+            raise Fault(f"{name}: an import that this test does not read: {line}")
+        for word in use.group(2).split(","):
+            self.imports[word.strip()] = use.group(1)
+
+    def add(self, name, item, text):
+        self.owner[name] = item
+        self.texts[item] = self.texts.get(item, "") + "\n" + text
+
+
+class Reach:
+    """What the definitions of a tree of crates reach."""
+
+    def __init__(self, crates):
+        self.crates, self.files = crates, {}
+
+    def specs(self, name):
+        if name not in self.files:
+            self.files[name] = Specs(self.crates, name)
+        return self.files[name]
+
+    def declared(self, crate, kind):
+        """The text of a type of the program."""
+        for path in sorted((self.crates / crate / "src").glob("*.rt")):
+            found = re.search(rf"(?ms)^(?:#\[.*?\]\n)*(?:pub(?:\(crate\))? )?(?:struct|enum) {kind}\b(.*?)(?:^\}}|;$)", path.read_text())
+            if found:
+                return found.group(1)
+        raise Fault(f"no type {kind} in crate {crate}")
+
+    def imported(self, module, word):
+        """The node of an imported name, or None where it comes from the language's libraries."""
+        crate = CRATE.match(module)
+        if not crate:
+            return None
+        name, path = crate.group(1), crate.group(2).split(".")
+        if path[0] == "declared":
+            return f"{name}::{path[1]}"
+        file = f"{name}/specs/{path[0]}.antt"
+        owner = self.specs(file).owner.get(word)
+        if owner is None:
+            raise Fault(f"{file} has no {word}, which is imported from it")
+        return f"{file}: {owner}"
+
+    def next(self, node):
+        """The nodes that a node names."""
+        if "::" in node:
+            crate, kind = node.split("::")
+            for word in set(re.findall(r"\b[A-Z]\w*", self.declared(crate, kind))) - {kind}:
+                yield from self.types(word)
+            return
+        file, item = node.split(": ")
+        specs = self.specs(file)
+        for word in sorted(words(specs.texts[item])):
+            if word in specs.owner:
+                yield f"{file}: {specs.owner[word]}"
+            elif word in specs.imports:
+                found = self.imported(specs.imports[word], word)
+                if found:
+                    yield found
+
+    def types(self, word):
+        """Every type of the program with this name; a variant of an enum is none."""
+        for path in sorted(self.crates.glob("*/src/*.rt")):
+            if re.search(rf"(?m)^(?:pub(?:\(crate\))? )?(?:struct|enum) {word}\b", path.read_text()):
+                yield f"{path.parts[-3]}::{word}"
+
+    def ways(self, starts):
+        """For each node reached, the way to it."""
+        found = {start: [start] for start in starts}
+        left = list(starts)
+        while left:
+            node = left.pop()
+            for other in self.next(node):
+                if other not in found:
+                    found[other] = found[node] + [other]
+                    left.append(other)
+        return found
+
+
+def faults(crates):
+    """What is wrong with the account of a tree of crates."""
+    reach = Reach(crates)
+    try:
+        for node in FORBIDDEN:
+            list(reach.next(node))
+        starts = [f"{file}: {item}" for file in ACCOUNT for item in reach.specs(file).texts]
+        imports = [(file, reach.imported(module, word)) for file in ACCOUNT for word, module in reach.specs(file).imports.items()]
+        ways = reach.ways(starts + [node for _, node in imports if node])
+    except (Fault, KeyError) as fault:
+        return [str(fault)], 0
+    told = [f"{node} is reached: {' > '.join(ways[node])}" for node in FORBIDDEN if node in ways]
+    return told, len(ways)
+
+
+def main():
+    told, reached = faults(ROOT / "crates")
+    for fault in told:
+        print(f"account: {fault}")
+    print(f"account: {reached} definitions and types reached, {len(FORBIDDEN)} forbidden, {len(told)} fault(s)")
+    return 1 if told or not reached else 0
+
+
+if __name__ == "__main__":
+    sys.exit(main())
