@@ -1,7 +1,8 @@
-/* Hand-made scripts from the rulings of document 01 and from requests a, b and c of
+/* Hand-made scripts from the rulings of document 01 and from requests a, b, c and e of
  * document 02, every sum of sample and offset, every header, ranges, and the cut tests.
  *   gcc -std=c11 -Wall -Wextra -Werror -pedantic -g -fsanitize=address,undefined \
- *       second.c selftest.c -o selftest && ./selftest */
+ *       second.c account.c selftest.c -o selftest && ./selftest */
+#include "account.h"
 #include "second.h"
 
 #include <stdio.h>
@@ -2157,7 +2158,230 @@ static void anything(void)
     CHECK(with_two > 1000);
 }
 
-int main(void)
+/* ---- Request e: the account ---------------------------------------------- */
+
+enum { HISTORY_MOST = 7 + 4 * 32, UNTOUCHED = 0xA5 };
+
+/* A script whose `first` is the account's verdict after the record: 1 and 2 the latches of
+ * the first device, 4 and 8 those of the second, 10 the pin.  One device if second is 0. */
+static void run_account(const char *name, uint8_t first, uint8_t second,
+                        const script_line *line, size_t lines)
+{
+    uint8_t capture[HISTORY_MOST], verdicts[HISTORY_MOST];
+    size_t header = second == 0 ? 6 : 7;
+    if (second == 0)
+        CHECK(second_write_header(first, (uint32_t)lines, capture, header) == 0);
+    else
+        CHECK(second_write_header_2(first, second, (uint32_t)lines, capture, header) == 0);
+    for (size_t i = 0; i < lines; i++)
+        memcpy(capture + header + 4 * i, line[i].record, 4);
+    memset(verdicts, UNTOUCHED, sizeof verdicts);
+    check(second_account(capture, header + 4 * lines, verdicts, lines) == lines, name, 0);
+    check(verdicts[lines] == UNTOUCHED, name, (int)lines);
+    for (size_t i = 0; i < lines; i++) {
+        if (verdicts[i] == line[i].first)
+            continue;
+        printf("wrong: account, %s, record %zu: %02X, not %02X\n", name, i + 1, verdicts[i],
+               line[i].first);
+        wrong++;
+    }
+}
+#define ACCOUNT(name, first, second, ...)                                          \
+    do {                                                                           \
+        static const script_line lines_[] = { __VA_ARGS__ };                       \
+        run_account(name, first, second, lines_, sizeof lines_ / sizeof *lines_);  \
+    } while (0)
+
+/* The listing of document 01, and each line of "Both sides of each line" that a latch can
+ * tell. */
+static void account_lines(void)
+{
+    ACCOUNT("listing", 1, 0, WR(0x19, 0x55, 0), WR(0x0D, 0x7F, 0), CV(0x19, 0x55, 0x20, 0x12),
+            RD(2, 0x12, 0), WR(0x21, 5, 0x12), CV(0x19, 0x50, 0, 0x12), CV(0x19, 0x4F, 0xE0, 0),
+            RD(3, 0, 0), WR(0x30, 0, 0));
+    ACCOUNT("T_CRIT 85", 1, 0, WR(0x19, 85, 0), CV(0, 85, 0, 0), CV(0, 85, 0x20, 0x12));
+    ACCOUNT("hysteresis 5", 1, 0, WR(0x19, 85, 0), WR(0x21, 5, 0), CV(0, 86, 0, 0x12),
+            CV(0, 80, 0, 0x12), CV(0, 79, 0xE0, 0), CV(0, 80, 0, 0));
+    ACCOUNT("local", 1, 0, CV(85, 0, 0, 0), CV(86, 0, 0, 0x11), CV(75, 0, 0, 0x11),
+            CV(74, 0, 0, 0));
+    ACCOUNT("local of LM89-1D", 3, 0, CV(105, 0, 0, 0), CV(106, 0, 0, 0x11),
+            CV(95, 0, 0, 0x11), CV(94, 0, 0, 0));
+    ACCOUNT("fault queue", 1, 0, WR(0x19, 85, 0), WR(0x0D, 127, 0), WR(0x0E, 0x80, 0),
+            WR(9, 1, 0), CV(0, 86, 0, 0), CV(0, 86, 0, 0), CV(0, 84, 0, 0), CV(0, 86, 0, 0),
+            CV(0, 86, 0, 0), CV(0, 86, 0, 0x12));
+    ACCOUNT("127.5 and offset 1", 1, 0, WR(0x19, 127, 0), WR(0x11, 1, 0), CV(0, 126, 0, 0),
+            CV(0, 127, 0x80, 0x12));
+    ACCOUNT("-128 and offset -1", 1, 0, WR(0x19, 0x8A, 0), CV(0, 0x8B, 0, 0x12),
+            WR(0x11, 0xFF, 0x12), CV(0, 0x80, 0, 0x12), WR(0x19, 0x8B, 0x12), CV(0, 0x80, 0, 0));
+    ACCOUNT("open diode and offset 5", 1, 0, WR(0x19, 127, 0), WR(0x11, 5, 0), CO(0, 0),
+            WR(0x19, 126, 0), CO(0, 0x12), PO, WR(0x19, 126, 0), WR(0x11, 0xFB, 0), CO(0, 0x12));
+    ACCOUNT("FFh to 09", 1, 0, WR(9, 0xFF, 0), CV(86, 127, 0, 0), WR(0x0F, 0, 0),
+            CV(86, 127, 0, 1), CV(0, 0, 0, 1), WR(9, 0x51, 0x11), WR(9, 0x55, 1));
+    ACCOUNT("T_CRIT -128, hysteresis 1", 1, 0, WR(0x20, 0x80, 0), WR(0x21, 1, 0),
+            CV(0x81, 0, 0, 0x11), CV(0x80, 0, 0, 0x11), CV(0x80, 0, 0, 0x11), PO);
+}
+
+/* e: "under the settings then in force", "in force at that later one". */
+static void account_settings(void)
+{
+    ACCOUNT("hysteresis at the later one", 1, 0, CV(86, 0, 0, 0x11), WR(0x21, 5, 0x11),
+            CV(80, 0, 0, 0x11), CV(79, 0, 0, 0), CV(86, 0, 0, 0x11), WR(0x21, 20, 0x11),
+            CV(65, 0, 0, 0x11), CV(64, 0, 0, 0));
+    ACCOUNT("limit at the later one", 1, 0, CV(86, 0, 0, 0x11), WR(0x20, 95, 0x11),
+            CV(85, 0, 0, 0x11), CV(84, 0, 0, 0), CV(95, 0, 0, 0));
+    ACCOUNT("limit then, not now", 1, 0, CV(84, 0, 0, 0), WR(0x20, 80, 0), CV(80, 0, 0, 0),
+            CV(81, 0, 0, 0x11), WR(0x20, 86, 0x11), CV(81, 0, 0, 0x11), CV(76, 0, 0, 0x11),
+            CV(75, 0, 0, 0), CV(86, 0, 0, 0));
+    ACCOUNT("writes alone", 1, 0, CV(80, 0, 0, 0), WR(0x20, 20, 0), WR(0x20, 85, 0),
+            CV(86, 0, 0, 0x11), WR(0x20, 127, 0x11), WR(0x21, 0, 0x11), WR(0x20, 85, 0x11),
+            CV(85, 0, 0, 0x11), CV(84, 0, 0, 0));
+    ACCOUNT("bits that hysteresis drops", 1, 0, WR(0x21, 0xE5, 0), CV(86, 0, 0, 0x11),
+            CV(80, 0, 0, 0x11), CV(79, 0, 0, 0));
+    ACCOUNT("below, then live", 1, 0, CV(0, 111, 0, 0x12), CV(0, 99, 0xE0, 0),
+            CV(0, 110, 0x20, 0x12), CV(0, 100, 0, 0x12));
+    ACCOUNT("below 0", 1, 0, WR(0x19, 0xF6, 0), CV(0, 0xF6, 0, 0), CV(0, 0xF6, 0x20, 0x12),
+            CV(0, 0xEC, 0, 0x12), CV(0, 0xEB, 0xE0, 0));
+    ACCOUNT("offset then, not now", 1, 0, WR(0x11, 2, 0), WR(0x12, 0x20, 0),
+            CV(0, 107, 0xE0, 0), CV(0, 108, 0, 0x12), WR(0x11, 0, 0x12), CV(0, 99, 0xE0, 0x12),
+            WR(0x12, 0, 0x12), CV(0, 99, 0xE0, 0), WR(0x11, 50, 0));
+}
+
+/* The count that a conversion led to; and what is no taken conversion. */
+static void account_queue(void)
+{
+    ACCOUNT("count runs with the queue off", 1, 0, CV(0, 71, 0, 0), CV(0, 0xFF, 0, 0),
+            WR(9, 1, 0), CV(0, 111, 0, 0x12));
+    ACCOUNT("a reading inside between", 1, 0, WR(9, 1, 0), CV(0, 111, 0, 0), CV(0, 111, 0, 0),
+            CV(0, 70, 0, 0), CV(0, 111, 0, 0), CV(0, 71, 0, 0), CV(0, 111, 0, 0x12));
+    ACCOUNT("held back, kept", 1, 0, WR(0x0D, 127, 0), CV(0, 111, 0, 0x12), WR(9, 1, 0x12),
+            CV(0, 100, 0, 0x12), CV(0, 111, 0, 0x12), CV(0, 99, 0xE0, 0), CV(0, 111, 0, 0));
+    ACCOUNT("turned off later", 1, 0, WR(9, 1, 0), CV(0, 111, 0, 0), WR(9, 0, 0),
+            CV(0, 110, 0, 0), CV(0, 111, 0, 0x12));
+    ACCOUNT("local has no queue", 1, 0, WR(9, 1, 0), CV(86, 0, 0, 0x11));
+    ACCOUNT("count in standby", 1, 0, WR(9, 0x41, 0), CV(0, 111, 0, 0), CV(0, 111, 0, 0),
+            WR(9, 1, 0), CV(0, 111, 0, 0), CV(0, 111, 0, 0), CV(0, 111, 0, 0x12));
+    ACCOUNT("count and power-on", 1, 0, CV(0, 71, 0, 0), CV(0, 71, 0, 0), PO, WR(9, 1, 0),
+            CV(0, 111, 0, 0), CV(0, 111, 0, 0), CV(0, 111, 0, 0x12));
+    ACCOUNT("one-shot", 1, 0, WR(0x0F, 0, 0), WR(9, 0x40, 0), CV(86, 0, 0, 0), WR(0x0F, 7, 0),
+            WR(9, 0x41, 0), CV(86, 0, 0, 0x11), CV(74, 0, 0, 0x11), WR(0x0F, 0, 0x11),
+            WR(0x0F, 0, 0x11), CO(74, 0), CV(86, 0, 0, 0));
+    ACCOUNT("one-shot and leaving", 1, 0, WR(9, 0x40, 0), WR(0x0F, 0, 0), WR(9, 0, 0),
+            WR(9, 0x40, 0), CV(86, 0, 0, 0), WR(0x0F, 0, 0), PO, WR(9, 0x40, 0),
+            CV(86, 0, 0, 0), WR(9, 0, 0), CV(86, 0, 0, 0x11));
+}
+
+/* What no latch depends on, masks, and power-on. */
+static void account_events(void)
+{
+    ACCOUNT("reads", 1, 0, CV(86, 0, 0, 0x11), RD(2, 0x11, 0), SB(2, 0x11), RB(0x11, 0),
+            WR(9, 0, 0x11), CV(80, 0, 0, 0x11), ARA(0x11, 0), { { 2, 0x4D, 2, 0 }, 0x11, 0 },
+            SB(0x20, 0x11), RB(0x11, 0));
+    ACCOUNT("elsewhere", 1, 0, { { 1, 0x4D, 0x20, 20 }, 0, 0 }, CV(21, 0, 0, 0),
+            CV(86, 0, 0, 0x11), { { 1, 0x0C, 0x21, 0 }, 0x11, 0 }, CV(75, 0, 0, 0x11),
+            WR(0x0B, 0, 0x11), WR(0xBF, 7, 0x11), WR(0x0A, 0, 0x11), CV(74, 0, 0, 0));
+    ACCOUNT("masks", 1, 0, CV(86, 111, 0, 0x13), WR(9, 4, 0x13), WR(9, 0x14, 3),
+            WR(9, 0x10, 0x13), CV(74, 110, 0, 2), CV(86, 110, 0, 0x13), WR(9, 0x14, 3),
+            CV(86, 99, 0, 1), CV(0, 111, 0, 2), WR(9, 4, 0x12), WR(9, 0x90, 2), WR(9, 0, 0x12));
+    ACCOUNT("power-on", 1, 0, CV(86, 111, 0, 0x13), PO, CV(85, 110, 0, 0), WR(0x20, 20, 0),
+            PO, CV(21, 0, 0, 0), CV(86, 0, 0, 0x11));
+}
+
+/* c: each device by its own records, addresses and settings; the pin is joined. */
+static void account_pairs(void)
+{
+    ACCOUNT("pair", 1, 2, CV(86, 0, 0, 0x11), CV2(86, 0, 0, 0x15), CV(0, 0, 0, 0x14),
+            CV2(0, 111, 0, 0x18), WR_D(9, 0x10, 8), WR(9, 0x14, 8), WR_D(9, 0, 0x18), PO,
+            CV2(85, 110, 0, 0), CO2(86, 0x1C), CV(0, 0, 0, 0x1C), CO(0, 0x1E), PO);
+    ACCOUNT("pair, 4D first", 3, 1, CV(105, 0, 0, 0), CV2(105, 0, 0, 0x14), CV(106, 0, 0, 0x15),
+            WR(0x20, 20, 0x15), CV(94, 0, 0, 0x14), CV2(10, 0, 0, 0x14), CV2(9, 0, 0, 0),
+            WR_D(9, 0x40, 0), CV(127, 0, 0, 0), CV2(21, 0, 0, 0x14), WR(0x0F, 0, 0x14),
+            CV(127, 0, 0, 0x14), WR_D(0x0F, 0, 0x14), CV(127, 0, 0, 0x15));
+    ACCOUNT("pair, queues", 2, 1, WR(9, 1, 0), CV2(0, 111, 0, 0), CV(0, 111, 0, 0x12),
+            CV2(0, 111, 0, 0x12), CV(0, 0, 0, 0), CV2(0, 111, 0, 0x18), WR_D(0x11, 3, 0x18),
+            CV2(0, 110, 0, 0x18), CV(0, 107, 0x20, 0x1A), ARA(0x1A, 0), RD(2, 0x1A, 0),
+            RD_D(2, 0x1A, 0));
+}
+
+/* Gives none, and touches nothing. */
+static void no_account(const uint8_t *capture, size_t length, size_t room)
+{
+    uint8_t verdicts[HISTORY_MOST];
+    memset(verdicts, UNTOUCHED, sizeof verdicts);
+    CHECK(second_account(capture, length, verdicts, room) == SECOND_ACCOUNT_NONE);
+    for (size_t i = 0; i < sizeof verdicts; i++)
+        CHECK(verdicts[i] == UNTOUCHED);
+}
+
+/* Every code that keeps a capture from being accepted, and every room. */
+static void account_refusals(void)
+{
+    static const uint8_t good[] = { 2, 1, 3, 0, 0, 0, 2, 9, 86, 0, 0, 8, 106, 0, 0 };
+    static const struct {
+        uint8_t at, byte;
+    } bad[] = { { 0, 0 }, { 0, 1 }, { 0, 3 }, { 1, 0 }, { 1, 4 }, { 2, 0 }, { 2, 4 }, { 1, 2 },
+                { 1, 3 }, { 2, 1 }, { 3, 1 }, { 6, 1 }, { 6, 3 }, { 7, 0 }, { 7, 10 }, { 9, 1 },
+                { 14, 1 } };
+    uint8_t capture[sizeof good + 1], verdicts[4];
+    no_account(NULL, 0, 0);
+    for (size_t length = 0; length < sizeof good; length++)
+        no_account(good, length, 2);
+    for (size_t i = 0; i < sizeof bad / sizeof *bad; i++) {
+        memcpy(capture, good, sizeof good);
+        capture[bad[i].at] = bad[i].byte;
+        no_account(capture, sizeof good, 2);
+    }
+    memcpy(capture, good, sizeof good);
+    capture[sizeof good] = 7;
+    no_account(capture, sizeof capture, 4);
+    for (size_t room = 0; room < 2; room++)
+        no_account(good, sizeof good, room);
+    for (size_t room = 2; room <= sizeof verdicts; room++) {
+        memset(verdicts, UNTOUCHED, sizeof verdicts);
+        CHECK(second_account(good, sizeof good, verdicts, room) == 2);
+        CHECK(verdicts[0] == 0x18 && verdicts[1] == 0x14 && verdicts[2] == UNTOUCHED);
+    }
+    static const uint8_t none[] = { 1, 2, 0, 0, 0, 0 };
+    CHECK(second_account(none, sizeof none, NULL, 0) == 0);
+}
+
+/* The verdict that latches and answers make after a record. */
+static uint8_t verdict_of(const second_bus *bus, uint8_t answer)
+{
+    return (uint8_t)(bus->first.local_latch | bus->first.remote_latch << 1 |
+                     bus->second.local_latch << 2 | bus->second.remote_latch << 3 |
+                     ((answer & 2) != 0 ? 0x10 : 0));
+}
+
+/* Random captures, right and wrong: accepted where a run gives 0, and then as the reader's
+ * latches and answers are, record by record. */
+static void account_captures(void)
+{
+    int set = 0;
+    for (int round = 0; round < 200000; round++) {
+        uint8_t capture[MOST], verdicts[RECORDS], answers[2 * RECORDS];
+        size_t length = make_capture(capture);
+        size_t count = second_account(capture, length, verdicts, sizeof verdicts);
+        bool accepted = second_run(capture, length, answers, sizeof answers) % 16 == 0;
+        CHECK(accepted == (count != SECOND_ACCOUNT_NONE));
+        if (!accepted)
+            continue;
+        second_reader reader;
+        size_t header = length - 4 * count;
+        second_fresh(&reader);
+        second_feed(&reader, capture, header, NULL, 0);
+        for (size_t i = 0; i < count; i++) {
+            uint8_t answer[2];
+            second_feed(&reader, capture + header + 4 * i, 4, answer, 2);
+            CHECK(verdicts[i] == verdict_of(&reader.bus, answer[0]));
+            CHECK(answer[0] == answers[2 * i]);
+            set += verdicts[i] != 0;
+        }
+    }
+    CHECK(set > 10000);
+}
+
+/* Document 01's scripts, requests a and b. */
+static void rulings_and_readings(void)
 {
     scripts();
     low_byte_scripts();
@@ -2176,6 +2400,11 @@ int main(void)
     refusals();
     low_byte_ranges();
     low_byte_in_reader();
+}
+
+/* Request c. */
+static void two_devices(void)
+{
     bus_places();
     bus_lines();
     bus_alert_response();
@@ -2197,6 +2426,11 @@ int main(void)
     variant_bytes();
     device_ranges();
     bus_listing();
+}
+
+/* Cuts, rooms and chance. */
+static void over_captures(void)
+{
     cuts();
     every_cut_and_room();
     definition();
@@ -2204,6 +2438,26 @@ int main(void)
     pairs();
     held_over_events();
     anything();
+}
+
+/* Request e. */
+static void accounts(void)
+{
+    account_lines();
+    account_settings();
+    account_queue();
+    account_events();
+    account_pairs();
+    account_refusals();
+    account_captures();
+}
+
+int main(void)
+{
+    rulings_and_readings();
+    two_devices();
+    over_captures();
+    accounts();
     puts(wrong == 0 ? "all right" : "WRONG");
     return wrong != 0;
 }

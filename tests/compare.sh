@@ -1,8 +1,9 @@
 #!/usr/bin/env bash
 # The second program held to the proved one, call for call: streams of calls with fixed seeds (tests/compare/streams.c) go through
 # second/replay.c and through the C library (tests/compare/library.c), and what both write is compared byte for byte; captures also
-# go through second/listing.c and 'lm89 list'. Prints what was covered and the lines of second/second.c that were not reached;
-# exits non-zero at the first failure. Needs what tests/bench.sh leaves in build/. All its files are in build/compare.
+# go through second/listing.c and 'lm89 list'; latches and T_CRIT_A after every record of a capture are held to the second account of
+# request e (second/account.c). Prints what was covered and the lines of second/second.c that were not reached; exits non-zero at the
+# first failure. Needs what tests/bench.sh leaves in build/. All its files are in build/compare.
 # 'tests/compare.sh COMMAND' takes that command in the place of the library program.
 set -euo pipefail
 cd "$(dirname "$0")/.."
@@ -13,7 +14,7 @@ strict=(-std=c11 -Wall -Wextra -Werror -pedantic)
 # One build of second/ for both: what the sanitizers see, and the lines that are reached, which gcov counts by gcc.
 watched=(gcc "${strict[@]}" -fsanitize=address,undefined -fno-sanitize-recover=all --coverage)
 themes=(device reader pair runs device-ranges reader-ranges writer listed)
-streams=("${themes[@]/#/$here/}")
+streams=("${themes[@]/#/$here/}" "$here/histories")
 streams=("${streams[@]/%/.stream}")
 lines_least=99
 export ASAN_OPTIONS=detect_leaks=0
@@ -38,6 +39,8 @@ make_streams() {
     for theme in "${themes[@]}"; do
         "$here/streams" "$theme" >"$here/$theme.stream" || stop "the stream $theme could not be written"
     done
+    cc "${strict[@]}" -o "$here/histories" tests/compare/histories.c
+    "$here/histories" >"$here/histories.stream" || stop "the stream histories could not be written"
 }
 
 make_second() {
@@ -45,6 +48,7 @@ make_second() {
     "${watched[@]}" -c -o "$here/second.o" second/second.c
     "${watched[@]}" -o "$here/second" "$here/second.o" second/replay.c
     "${watched[@]}" -o "$here/second-listing" "$here/second.o" second/listing.c
+    cc "${strict[@]}" -O1 -fsanitize=address,undefined -fno-sanitize-recover=all -o "$here/history" second/history.c second/account.c second/second.c
 }
 
 # The lines of second/second.c that these streams and listings reach.
@@ -78,6 +82,8 @@ python3 tests/compare/compare.py "$here/second" "$other" "${streams[@]}" ||
     stop "second/ and '$other' disagree, see above: documents 01 and 02 say which is wrong"
 python3 tests/compare/listings.py "$here/second-listing" 'build/bin/lm89 list' "$here/listed.stream" ||
     stop "the two listings disagree, see above: documents 01 and 02 say which is wrong"
+python3 tests/compare/histories.py "$here/history" "$here/runs.stream" "$here/listed.stream" "$here/histories.stream" ||
+    stop "latches or T_CRIT_A are not as the account of request e has them, or a row never occurred, see above: document 02 says what is right"
 python3 tests/compare/covered.py "${streams[@]}" ||
     stop "see above: add what never occurred to tests/compare/streams.c; documents 01 and 02 say what a wrong answer must be"
 measure_lines

@@ -11,7 +11,8 @@ stop() {
     exit 1
 }
 
-cc "${flags[@]}" -fsanitize=address,undefined -fno-sanitize-recover=all -o build/second-selftest second/second.c second/selftest.c
+cc "${flags[@]}" -fsanitize=address,undefined -fno-sanitize-recover=all -o build/second-selftest \
+    second/second.c second/account.c second/selftest.c
 ASAN_OPTIONS=detect_leaks=0 build/second-selftest || stop "second/selftest.c failed, see above"
 cc "${flags[@]}" -o build/second-listing second/second.c second/listing.c
 for hex in samples/*.hex; do
