@@ -1,5 +1,5 @@
 -- A record's answer, by the account. `answering`: the first answer byte of a capture's record is that of the bus before it and the record's event.
--- `taken-bit`: of an accepted capture, D3 of a conversion's answer is set exactly if the account before it says that it is taken.
+-- `some-record`: every number up to the record count has its event. `taken-bit`: of an accepted capture, D3 of a conversion's answer is set exactly if the account before it says that it is taken.
 -- Assumes nothing.
 use mathlib.Core.Path.{_≡_, refl, sym, ap, subst, _∙_}
 use mathlib.Core.Bool.{Bool, true, false, not, cond, _||_, _&&_, and-true, and-false, or-false}
@@ -32,10 +32,9 @@ use Rattle.capture_laws.specs.Events.{eventsOf, busIn, answeredBytes}
 use Rattle.capture_laws.proofs.Stepping.{step-by-step}
 use Rattle.history.specs.Account.{InForce, isTaken, accountOf, onBus}
 use Rattle.history.specs.Verdict.{Next}
-use Rattle.history.specs.Latches.{Accepted, recordCount, front, stateAfter}
+use Rattle.history.specs.Latches.{Accepted, recordCount, front, stateAfter, answerAt, D3At, inForceOf}
 use Rattle.history.proofs.WithoutD7.{low-bit}
-use Rattle.history.proofs.Follows.{inForceOf}
-use Rattle.history.proofs.Fronts.{header, front-bus, front-events, bus-devices, events-counted}
+use Rattle.history.proofs.Fronts.{header, front-bus, first-events, bus-devices, events-counted}
 use Rattle.history.proofs.History.{in-force}
 
 -- ---- rows of events
@@ -120,32 +119,35 @@ same-taken d = rw (low-bit (d .settings) standby (omega arith))
 
 module _ (xs : List ℕ) (accepted : Accepted xs) where
   -- the bus after the first k records
-  pub bus-after : (k : ℕ) → k ≤ recordCount xs → stateAfter xs k .bus ≡ busAfter (busIn xs) (take k (eventsOf xs))
-  bus-after k few =
+  pub bus-after : (k : ℕ) → stateAfter xs k .bus ≡ busAfter (busIn xs) (take k (eventsOf xs))
+  bus-after k =
       let h = header xs accepted in
-      step-by-step (front xs k) .bus ∙ rw (front-bus h k, front-events h k few)
+      step-by-step (front xs k) .bus ∙ rw (front-bus h (k * 4), first-events h k)
 
-  pub on-bus : (k : ℕ) → k ≤ recordCount xs → (second : Bool) → presentOf (stateAfter xs k .bus) second ≡ onBus xs second
-  on-bus k few second =
+  pub on-bus : (k : ℕ) (second : Bool) → presentOf (stateAfter xs k .bus) second ≡ onBus xs second
+  on-bus k second =
       ap (λ (n : ℕ). not second || eqb n 2)
-      (ap (λ (p : Bus). p .devices) (bus-after k few) ∙ after-devices (busIn xs) (take k (eventsOf xs)) ∙ bus-devices (header xs accepted))
+      (ap (λ (p : Bus). p .devices) (bus-after k) ∙ after-devices (busIn xs) (take k (eventsOf xs)) ∙ bus-devices (header xs accepted))
 
   pub answer : (k : ℕ) → k < recordCount xs → Answering (busIn xs) (eventsOf xs) k
   answer k few = answering (busIn xs) (eventsOf xs) k (omega (arith, few, events-counted xs accepted))
 
-  pub answer-byte : (k : ℕ) (few : k < recordCount xs) → getD (wholeOf xs .answers) (k * 2) 0 ≡ busAnswerOf (busEffectOf (stateAfter xs k .bus) (answer k few .event))
+  pub some-record : (k : ℕ) → k < recordCount xs → (e : Event) × Next xs k e
+  some-record k few = let a = answer k few in (a .event, record { rest = a .rest; is = a .is })
+
+  pub answer-byte : (k : ℕ) (few : k < recordCount xs) → answerAt xs k ≡ busAnswerOf (busEffectOf (stateAfter xs k .bus) (answer k few .event))
   answer-byte k few =
       ap (λ (l : List ℕ). getD l (k * 2) 0) (step-by-step xs .answers)
       ∙ answer k few .byte
-      ∙ ap (λ (p : Bus). busAnswerOf (busEffectOf p (answer k few .event))) (sym (bus-after k (omega arith)))
+      ∙ ap (λ (p : Bus). busAnswerOf (busEffectOf p (answer k few .event))) (sym (bus-after k))
 
   -- of record number k + 1, a conversion of a device on the bus
   pub taken-bit : (k : ℕ) → k < recordCount xs → (second : Bool) → onBus xs second ≡ true → {e : Event} → Next xs k e → conversionOf second e ≡ true
-      → has (getD (wholeOf xs .answers) (k * 2) 0) 0x08 ≡ isTaken (accountOf xs second k .inForce)
+      → D3At xs k ≡ isTaken (accountOf xs second k .inForce)
   taken-bit k few second there {e} n c =
       let p = stateAfter xs k .bus in
       let same : answer k few .event ≡ e = ap (λ (l : List Event). getD l 0 e) (sym (answer k few .is) ∙ n .is) in
-      let here = on-bus k (omega arith) second ∙ there in
+      let here = on-bus k second ∙ there in
       ap (λ (b : ℕ). has b 0x08) (answer-byte k few ∙ ap (λ (x : Event). busAnswerOf (busEffectOf p x)) same)
       ∙ answer-taken (busEffectOf p e)
       ∙ takes p second here e c

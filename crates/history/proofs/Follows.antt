@@ -19,8 +19,7 @@ use Rattle.registers.specs.Bits.{has, standby, faultQueue}
 use Rattle.registers.specs.Page.{writableOf, readableOf, knownOf, oneShot, settingOf, changedOf, readAtOf, keptOf, powerOnOf, addressOf}
 use Rattle.conversion.specs.declared.Sensed.{Sensed}
 use Rattle.conversion.specs.Conversion.{readingOf, localLimitsOf, remoteLimitsOf, outOf, queuedOf, shownOf, sensedOf, faultsOf, remoteOutOf}
-use Rattle.conversion.specs.Conversion.{localOutOf, localOf, remoteShownOf}
-use Rattle.conversion.specs.Conversion as Latch
+use Rattle.conversion.specs.Conversion.{latchOf, localOutOf, localOf, remoteShownOf}
 use Rattle.device.specs.declared.Device.{Device}
 use Rattle.device.specs.declared.Outcome.{Outcome}
 use Rattle.device.specs.declared.Event.{Event}
@@ -34,21 +33,14 @@ use Rattle.pair_laws.specs.Devices.{conversionOf, isAlertResponse}
 use Rattle.history.specs.Account.{InForce, Taken, Account, Owner, withoutD7, startOf, storeIn, askIn, writeIn, isTaken, takenAs, withTaken, convertIn}
 use Rattle.history.specs.Account.{sampleIn, notedOf}
 use Rattle.history.specs.Verdict.{Channel, localChannel, remoteChannel, critOf, readAs, liveAt, belowAt, verdictOf, latestLive}
-use Rattle.history.specs.Latches.{latchOf, critBit}
+use Rattle.history.specs.Latches.{latchAt, critBit, Tells, inForceOf}
 use Rattle.history.proofs.WithoutD7.{low-bit, masking, changing, same-reading, same-limits, same-crit, same-hysteresis}
 use Rattle.history.proofs.Verdicts.{latching}
-
--- ---- what an account keeps of a device
-
--- no latch, status, pointer, reading, live or kept byte, and not D7
-abbrev pub inForceOf : Device → InForce
-inForceOf d = record { settings = withoutD7 (d .settings); pending = d .pending; faults = d .sensed .faults }
 
 pub record Follows (o : Owner) (d : Device) (a : Account) : Type 0 where
   pub variant : d .variant ≡ o .variant
   pub inForce : inForceOf d ≡ a .inForce
-  pub latch : (ch : Channel) → latchOf ch (d .sensed) ≡ verdictOf ch (a .taken)
-  pub live : (ch : Channel) → has (d .sensed .live) (critBit ch) ≡ latestLive ch (a .taken)
+  pub sensed : Tells (a .taken) (d .sensed)
 
 -- ---- records that the account leaves out
 
@@ -125,15 +117,11 @@ module _ (s : List ℕ) (old : Sensed) (local : ℕ) (remote : ℤ) (diodeOpen :
 
   -- P8, of the device
   moves : (ch : Channel)
-      → latchOf ch (sensedOf s old local remote diodeOpen)
-      ≡ Latch.latchOf (crit ch) (clearedOf (readAs ch now) (critOf ch s) (settingOf s 0x21)) (latchOf ch old)
+      → latchAt ch (sensedOf s old local remote diodeOpen)
+      ≡ latchOf (crit ch) (clearedOf (readAs ch now) (critOf ch s) (settingOf s 0x21)) (latchAt ch old)
   unfolding sensedOf crit
   moves localChannel = refl
   moves remoteChannel = refl
-
-  latches : (ts : List Taken) → ((ch : Channel) → latchOf ch old ≡ verdictOf ch ts)
-      → (ch : Channel) → latchOf ch (sensedOf s old local remote diodeOpen) ≡ verdictOf ch (now ∷ ts)
-  latches ts h ch = moves ch ∙ rw (live ch, below ch, h ch) (latching ch now ts)
 
   -- P5, of the device: LCRIT and RCRIT of the live byte
   bits : (ch : Channel) → has (sensedOf s old local remote diodeOpen .live) (critBit ch) ≡ liveAt ch now
@@ -143,6 +131,10 @@ module _ (s : List ℕ) (old : Sensed) (local : ℕ) (remote : ℤ) (diodeOpen :
       after-conversion s old local remote diodeOpen .RCRIT
       ∙ ap (λ (limit : ℤ). ltZ limit remote && not (queuedOf (settingOf s 0x03) (faultsOf s (old .faults) remote))) (sym (whole (settingOf s 0x19)))
       ∙ live remoteChannel
+
+  tells : {ts : List Taken} → Tells ts old → Tells (now ∷ ts) (sensedOf s old local remote diodeOpen)
+  unfolding sensedOf
+  tells {ts} h = record { latch = λ ch. moves ch ∙ rw (live ch, below ch, h .latch ch) (latching ch now ts); live = bits; readings = (refl, refl) }
 
 -- ---- one record of the device
 
@@ -166,9 +158,9 @@ other false h = refl
 module _ (o : Owner) (number : ℕ) where
   pub begins : Follows o (poweredOf (o .variant)) (startOf (o .variant))
   unfolding poweredOf startOf verdictOf
-  begins = record { variant = refl; inForce = refl; latch = none; live = dark }
+  begins = record { variant = refl; inForce = refl; sensed = record { latch = none; live = dark; readings = tt } }
     where
-      none : (ch : Channel) → latchOf ch (poweredOf (o .variant) .sensed) ≡ false
+      none : (ch : Channel) → latchAt ch (poweredOf (o .variant) .sensed) ≡ false
       none localChannel = refl
       none remoteChannel = refl
 
@@ -177,16 +169,15 @@ module _ (o : Owner) (number : ℕ) where
       dark remoteChannel = refl
 
   -- of a device and the account that has what is in force at it
-  module _ (d : Device) (ts : List Taken) (v : d .variant ≡ o .variant) (h : (ch : Channel) → latchOf ch (d .sensed) ≡ verdictOf ch ts)
-      (l : (ch : Channel) → has (d .sensed .live) (critBit ch) ≡ latestLive ch ts) where
+  module _ (d : Device) (ts : List Taken) (v : d .variant ≡ o .variant) (h : Tells ts (d .sensed)) where
     abbrev account : Account
     account = record { inForce = inForceOf d; taken = ts }
 
     same : Follows o d account
-    same = record { variant = v; inForce = refl; latch = h; live = l }
+    same = record { variant = v; inForce = refl; sensed = h }
 
     still : (n : Device) → Still d n → Follows o n account
-    still n s = record { variant = s .variant ∙ v; inForce = s .inForce; latch = λ ch. ap (latchOf ch) (s .sensed) ∙ h ch; live = λ ch. ap (λ (n : Sensed). has (n .live) (critBit ch)) (s .sensed) ∙ l ch }
+    still n s = record { variant = s .variant ∙ v; inForce = s .inForce; sensed = subst (Tells ts) (sym (s .sensed)) h }
 
     stores : (w x : ℕ) → Follows o (storedOf d w x) (storeIn account w x)
     unfolding storedOf storeIn
@@ -195,13 +186,12 @@ module _ (o : Owner) (number : ℕ) where
         record {
           variant = v;
           inForce = rw (changing (d .settings) (readAtOf w) (bitAnd x (keptOf w)), low-bit settings standby (omega arith));
-          latch = h;
-          live = l;
+          sensed = h;
         }
 
     asks : Follows o (firedOf d) (askIn account)
     unfolding firedOf askIn
-    asks = record { variant = v; inForce = rw (low-bit (d .settings) standby (omega arith)); latch = h; live = l }
+    asks = record { variant = v; inForce = rw (low-bit (d .settings) standby (omega arith)); sensed = h }
 
     writes : (w x : ℕ) → Follows o (putOf d w x .device) (writeIn account w x)
     unfolding putOf writeIn
@@ -225,8 +215,7 @@ module _ (o : Owner) (number : ℕ) where
         (record {
           variant = v;
           inForce = rw faults;
-          latch = latches (d .settings) (d .sensed) local (remote .eighths) diodeOpen number (d .pending) ts h;
-          live = bits (d .settings) (d .sensed) local (remote .eighths) diodeOpen number (d .pending);
+          sensed = tells (d .settings) (d .sensed) local (remote .eighths) diodeOpen number (d .pending) h;
         })
         same
 
@@ -259,7 +248,7 @@ module _ (o : Owner) (number : ℕ) where
       → Follows o (effectOf d e .device) (notedOf o number a e)
   own-record {d} {a} f e c =
       subst (λ (now : InForce). Follows o (effectOf d e .device) (notedOf o number (record { inForce = now; taken = a .taken }) e)) (f .inForce)
-      (own d (a .taken) (f .variant) (f .latch) (f .live) e c)
+      (own d (a .taken) (f .variant) (f .sensed) e c)
 
   -- ---- records of the other device, and alert responses
 

@@ -1,15 +1,17 @@
--- The first k records of a capture. `headed`: a capture whose finishing code is 0 has a complete header. `front-variants`, `front-bus`: its first k records
--- stand behind the same header, `front-events`: and their events are its first k. `reached`: of an accepted capture, no byte of them is refused,
--- so many records are done, and the answers are its first ones. `all`: with k its record count they are the capture.
+-- The front of a capture: its header and some bytes behind it. `headed`: a capture whose finishing code is 0 has a complete header. `front-variants`,
+-- `front-bus`, `front-events`: of its front the variants and the bus at them are the same, and the events are its first ones, one for each four bytes.
+-- `reached`: of an accepted capture's first k records no byte is refused, so many records are done, and the answers are its first ones. `all`: with
+-- k its record count they are the capture.
 -- Assumes nothing.
 use mathlib.Core.Path.{_≡_, refl, sym, ap, subst, _∙_}
 use mathlib.Core.Bool.{Bool, true, false, not, cond, _||_, _&&_}
 use mathlib.Core.List.{List, [], _∷_, _++_}
-use Prim.Native.Nat.{ℕ, zero, suc, _+_, _*_, _≤_}
+use Prim.Native.Nat.{ℕ, zero, suc, _+_, _*_, _/_, _%_, _≤_, _<_}
 use native.Mathlib.Omega.{arith}
+use native.Mathlib.Nat.{zero-add}
 use lib.Dec.{eqb, ltb}
-use lib.ListN.{length, getD, take, drop, length-take, take-append-drop}
-use lib.Seq.{take-take, take-all, take-at, length-take-le}
+use lib.ListN.{length, getD, take, drop, take-append-drop}
+use lib.Seq.{take-all, take-at, length-take-le}
 use borrow.Author.Tests.{eqb-true, eqb-false}
 use Rattle.laws.proofs.Choices.{by-test, clash}
 use Rattle.registers.specs.Page.{addressOf}
@@ -32,7 +34,7 @@ use Rattle.capture_laws.proofs.Cuts.{whole-call}
 use Rattle.capture_laws.proofs.Places.{stands}
 use Rattle.capture_laws.proofs.Fours.{run-even, run-code}
 use Rattle.capture_laws.proofs.Stepping.{step-by-step}
-use Rattle.history.specs.Latches.{Accepted, Reached, recordCount, front}
+use Rattle.history.specs.Latches.{Accepted, Reached, recordCount, headerBytes, front}
 
 -- ---- a complete header
 
@@ -77,23 +79,35 @@ headed (n ∷ v ∷ xs) z =
     only : (n : ℕ) → (eqb n 1 || eqb n 2) ≡ true → eqb n 2 ≡ false → n ≡ 1
     only n e g = by-test (eqb n 1) (λ t. eqb-true n 1 t) (λ t. clash (rw (t, g) at e))
 
--- ---- the front of a headed capture
+-- ---- the header and some bytes behind it
 
-six : (k : ℕ) → 5 + 1 + k * 4 ≡ suc (suc (suc (suc (suc (suc (k * 4))))))
-six k = omega arith
+six : (m : ℕ) → 5 + 1 + m ≡ suc (suc (suc (suc (suc (suc m)))))
+six m = omega arith
 
-seven : (k : ℕ) → 5 + 2 + k * 4 ≡ suc (suc (suc (suc (suc (suc (suc (k * 4)))))))
-seven k = omega arith
+seven : (m : ℕ) → 5 + 2 + m ≡ suc (suc (suc (suc (suc (suc (suc m))))))
+seven m = omega arith
 
-quads-front : (k : ℕ) (l : List ℕ) → quads (take (k * 4) l) ≡ take k (quads l)
-quads-front zero l = refl
-quads-front (suc k) l = rw (four k) (behind l (quads-front k))
+-- up to three bytes are no record
+no-quad : (r : ℕ) (l : List ℕ) → r < 4 → quads (take r l) ≡ []
+no-quad zero l h = refl
+no-quad (suc r) [] h = refl
+no-quad (suc zero) (x ∷ l) h = refl
+no-quad (suc (suc r)) (x ∷ []) h = refl
+no-quad (suc (suc zero)) (x ∷ a ∷ l) h = refl
+no-quad (suc (suc (suc r))) (x ∷ a ∷ []) h = refl
+no-quad (suc (suc (suc zero))) (x ∷ a ∷ b ∷ l) h = refl
+no-quad (suc (suc (suc (suc r)))) (x ∷ a ∷ b ∷ l) h = absurd (omega arith)
+
+-- the records of k fours of bytes and up to three more
+quads-front : (k r : ℕ) (l : List ℕ) → r < 4 → quads (take (k * 4 + r) l) ≡ take k (quads l)
+quads-front zero r l h = rw (zero-add r) (no-quad r l h)
+quads-front (suc k) r l h = rw (four k) (behind l (λ m. quads-front k r m h))
   where
-    four : (k : ℕ) → suc k * 4 ≡ suc (suc (suc (suc (k * 4))))
+    four : (k : ℕ) → suc k * 4 + r ≡ suc (suc (suc (suc (k * 4 + r))))
     four k = omega arith
 
-    behind : (l : List ℕ) → ((m : List ℕ) → quads (take (k * 4) m) ≡ take k (quads m))
-        → quads (take (suc (suc (suc (suc (k * 4))))) l) ≡ take (suc k) (quads l)
+    behind : (l : List ℕ) → ((m : List ℕ) → quads (take (k * 4 + r) m) ≡ take k (quads m))
+        → quads (take (suc (suc (suc (suc (k * 4 + r))))) l) ≡ take (suc k) (quads l)
     behind [] rest = refl
     behind (x ∷ []) rest = refl
     behind (x ∷ a ∷ []) rest = refl
@@ -110,28 +124,44 @@ events-front devices (suc k) (q ∷ qs) = judge (quadOf devices q) (events-front
     judge (Valid e) rest = ap (λ (es : List Event). e ∷ es) rest
     judge (Refused why) rest = refl
 
--- of the counted records those of the front are the first
-counted-front : (devices n k : ℕ) (l : List ℕ) → k ≤ n → eventsIn devices (take n (quads (take (k * 4) l))) ≡ take k (eventsIn devices (take n (quads l)))
-counted-front devices n k l h =
-    let few : length (take k (quads l)) ≤ n = simp length-take (omega arith) in
-    ap (λ (qs : List Quad). eventsIn devices (take n qs)) (quads-front k l)
-    ∙ ap (eventsIn devices) (take-all n (take k (quads l)) few ∙ sym (take-take k n (quads l) h))
-    ∙ events-front devices k (take n (quads l))
+-- two cuts, in either order
+take-swap : (n k : ℕ) (qs : List Quad) → take n (take k qs) ≡ take k (take n qs)
+take-swap zero zero qs = refl
+take-swap zero (suc k) qs = refl
+take-swap (suc n) zero qs = refl
+take-swap (suc n) (suc k) [] = refl
+take-swap (suc n) (suc k) (q ∷ qs) = ap (λ (rest : List Quad). q ∷ rest) (take-swap n k qs)
 
-pub front-variants : {xs : List ℕ} → Headed xs → (k : ℕ) → variantsIn (front xs k) ≡ variantsIn xs
+-- of the counted records those of the bytes in front are the first
+counted-front : (devices n m : ℕ) (l : List ℕ) → eventsIn devices (take n (quads (take m l))) ≡ take (m / 4) (eventsIn devices (take n (quads l)))
+counted-front devices n m l =
+    let fours : m ≡ m / 4 * 4 + m % 4 = omega arith in
+    ap (λ (j : ℕ). eventsIn devices (take n (quads (take j l)))) fours
+    ∙ ap (λ (qs : List Quad). eventsIn devices (take n qs)) (quads-front (m / 4) (m % 4) l (omega arith))
+    ∙ ap (eventsIn devices) (take-swap n (m / 4) (quads l))
+    ∙ events-front devices (m / 4) (take n (quads l))
+
+-- the same variants and the same bus at them, and the first of the events
+pub front-variants : {xs : List ℕ} → Headed xs → (m : ℕ) → variantsIn (take (headerBytes xs + m) xs) ≡ variantsIn xs
 unfolding variantsIn
-front-variants (one v a b c d l known) k = rw (six k)
-front-variants (two v w a b c d l known other apart) k = rw (seven k)
+front-variants (one v a b c d l known) m = rw (six m)
+front-variants (two v w a b c d l known other apart) m = rw (seven m)
 
-pub front-bus : {xs : List ℕ} → Headed xs → (k : ℕ) → busIn (front xs k) ≡ busIn xs
+pub front-bus : {xs : List ℕ} → Headed xs → (m : ℕ) → busIn (take (headerBytes xs + m) xs) ≡ busIn xs
 unfolding busIn variantsIn
-front-bus (one v a b c d l known) k = rw (six k)
-front-bus (two v w a b c d l known other apart) k = rw (seven k)
+front-bus (one v a b c d l known) m = rw (six m)
+front-bus (two v w a b c d l known other apart) m = rw (seven m)
 
-pub front-events : {xs : List ℕ} → Headed xs → (k : ℕ) → k ≤ recordCount xs → eventsOf (front xs k) ≡ take k (eventsOf xs)
+pub front-events : {xs : List ℕ} → Headed xs → (m : ℕ) → eventsOf (take (headerBytes xs + m) xs) ≡ take (m / 4) (eventsOf xs)
 unfolding eventsOf
-front-events (one v a b c d l known) k h = rw (six k, known) (counted-front 1 (number 0 (a ∷ b ∷ c ∷ d ∷ [])) k l h)
-front-events (two v w a b c d l known other apart) k h = rw (seven k, known, other, apart) (counted-front 2 (number 0 (a ∷ b ∷ c ∷ d ∷ [])) k l h)
+front-events (one v a b c d l known) m = rw (six m, known) (counted-front 1 (number 0 (a ∷ b ∷ c ∷ d ∷ [])) m l)
+front-events (two v w a b c d l known other apart) m = rw (seven m, known, other, apart) (counted-front 2 (number 0 (a ∷ b ∷ c ∷ d ∷ [])) m l)
+
+-- of whole records
+pub first-events : {xs : List ℕ} → Headed xs → (k : ℕ) → eventsOf (front xs k) ≡ take k (eventsOf xs)
+first-events {xs} h k =
+    let whole : k * 4 / 4 ≡ k = omega arith in
+    front-events h (k * 4) ∙ ap (λ (j : ℕ). take j (eventsOf xs)) whole
 
 pub bus-devices : {xs : List ℕ} → Headed xs → busIn xs .devices ≡ getD xs 0 0
 unfolding busIn variantsIn
@@ -175,7 +205,7 @@ at-end n k p (q ∷ qs) l z =
 -- every counted record is done, and the header and the counted records are what is consumed
 record Complete (xs : List ℕ) : Type 0 where
   done : wholeOf xs .reader .done ≡ recordCount xs
-  consumed : wholeOf xs .consumed ≡ 5 + getD xs 0 0 + recordCount xs * 4
+  consumed : wholeOf xs .consumed ≡ headerBytes xs + recordCount xs * 4
 
 complete : {xs : List ℕ} → Headed xs → wholeOf xs .finishing ≡ 0 → Complete xs
 unfolding wholeOf variantsOf secondVariantOf recordCountOf
@@ -203,18 +233,18 @@ module _ (xs : List ℕ) (accepted : Accepted xs) where
   all =
       let room = length (wholeOf xs .answers) in
       let size = rw (whole-call xs room (omega arith)) at (stands freshOf xs room) .done (accepted .code) in
-      take-all (5 + getD xs 0 0 + recordCount xs * 4) xs (omega (arith, size, end .consumed))
+      take-all (headerBytes xs + recordCount xs * 4) xs (omega (arith, size, end .consumed))
 
   module _ (k : ℕ) (few : k ≤ recordCount xs) where
     done-front : wholeOf (front xs k) .reader .done ≡ k
     done-front =
         step-by-step (front xs k) .done
-        ∙ ap length (front-events header k few)
+        ∙ ap length (first-events header k)
         ∙ length-take-le k (eventsOf xs) (omega (arith, events-counted))
 
     -- the run over the front, and the rest of the run
-    cut : runOf freshOf xs ≡ after (runOf freshOf (front xs k)) (runOf (runOf freshOf (front xs k) .reader) (drop (5 + getD xs 0 0 + k * 4) xs))
-    cut = ap (runOf freshOf) (sym (take-append-drop (5 + getD xs 0 0 + k * 4) xs)) ∙ run-append freshOf (front xs k) (drop (5 + getD xs 0 0 + k * 4) xs)
+    cut : runOf freshOf xs ≡ after (runOf freshOf (front xs k)) (runOf (runOf freshOf (front xs k) .reader) (drop (headerBytes xs + k * 4) xs))
+    cut = ap (runOf freshOf) (sym (take-append-drop (headerBytes xs + k * 4) xs)) ∙ run-append freshOf (front xs k) (drop (headerBytes xs + k * 4) xs)
 
     -- a code that it held would be the capture's
     none-held : runOf freshOf (front xs k) .reader .held ≡ 0
@@ -231,7 +261,7 @@ module _ (xs : List ℕ) (accepted : Accepted xs) where
     reached =
         let f = front xs k in
         let run = whole-run f in
-        let whole : wholeOf xs .answers ≡ runOf freshOf f .answers ++ runOf (runOf freshOf f .reader) (drop (5 + getD xs 0 0 + k * 4) xs) .answers =
+        let whole : wholeOf xs .answers ≡ runOf freshOf f .answers ++ runOf (runOf freshOf f .reader) (drop (headerBytes xs + k * 4) xs) .answers =
         ap (λ (o : Out). o .answers) (sym (whole-run xs) ∙ cut) in
         let two : length (runOf freshOf f .answers) ≡ k * 2 =
         omega (arith, run-even freshOf f, ap (λ (o : Out). o .reader .done) run, done-front) in

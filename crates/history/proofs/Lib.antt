@@ -3,7 +3,8 @@ pub mod Verdicts
 pub mod Follows
 pub mod Rows
 pub mod Fronts
+pub mod Feeding
 pub mod History
 pub mod Answers
-pub mod Pin
 pub mod Quiet
+pub mod Pin

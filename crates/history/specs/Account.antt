@@ -1,5 +1,6 @@
 -- Request e, the account of one device: from a capture's records, in order, the settings in force and the conversions taken since the last
--- power-on. It names records and settings only: no latch, pin, status or live byte. Settings are named by the numbers at which their registers are read.
+-- power-on. It names records and settings only: no latch, pin, status or live byte of the model. Settings are named by the numbers at which their
+-- registers are read.
 -- Assumes nothing.
 use Prim.Native.Nat.{ℕ, _+_}
 use mathlib.Core.Bool.{Bool, true, false, not, _||_, _&&_, cond}
@@ -55,7 +56,7 @@ startOf variant = record { inForce = record { settings = withoutD7 (powerOnOf va
 abbrev pub setUpIn : Account → Bool → List ℕ → Account
 setUpIn a pending settings = record { inForce = record { settings = settings; pending = pending; faults = a .inForce .faults }; taken = a .taken }
 
--- the register that is written at w keeps the value's kept bits; P11: leaving standby drops a one-shot
+-- the register that is written at w keeps the value's kept bits, but for D7 of configuration; P11: leaving standby drops a one-shot
 unfoldable pub storeIn : Account → ℕ → ℕ → Account
 storeIn a w v =
     let settings = withoutD7 (changedOf (a .inForce .settings) (readAtOf w) (bitAnd v (keptOf w))) in

@@ -1,5 +1,5 @@
--- Request e, what an account says of a latch and of T_CRIT_A: from the conversions taken since the last power-on, each under the settings in force
--- at it, and from the masks. It names records and settings only: no latch, pin, status or live byte.
+-- Request e, what an account says of a latch, and with the masks in force of T_CRIT_A: from the conversions taken since the last power-on, each under
+-- the settings in force at it. It names records and settings only: no latch, pin, status or live byte of the model.
 -- Assumes nothing.
 use Prim.Native.Nat.{ℕ}
 use mathlib.Core.Path.{_≡_}
@@ -82,23 +82,23 @@ latestLive ch (t ∷ ts) = liveAt ch t
 abbrev pub verdictAfter : List ℕ → Bool → ℕ → Channel → Bool
 verdictAfter capture second k ch = verdictOf ch (accountOf capture second k .taken)
 
--- ---- what moves a verdict
+-- ---- what may move a verdict
 
 -- a conversion of the device, or a power-on
-abbrev pub movesVerdict : Bool → Event → Bool
-movesVerdict second e = conversionOf second e || isPowerOn e
+abbrev pub mayMove : Bool → Event → Bool
+mayMove second e = conversionOf second e || isPowerOn e
 
 -- kinds 02 to 04: a status read, by read byte or by pointer, and the alert response are among them
-abbrev pub onlyReads : Event → Bool
-onlyReads (Write a w v) = false
-onlyReads (Read a r) = true
-onlyReads (Send a r) = true
-onlyReads (Receive a) = true
-onlyReads (Convert local high low) = false
-onlyReads (Open local) = false
-onlyReads PowerOn = false
-onlyReads (ConvertSecond local high low) = false
-onlyReads (OpenSecond local) = false
+abbrev pub readsOrSends : Event → Bool
+readsOrSends (Write a w v) = false
+readsOrSends (Read a r) = true
+readsOrSends (Send a r) = true
+readsOrSends (Receive a) = true
+readsOrSends (Convert local high low) = false
+readsOrSends (Open local) = false
+readsOrSends PowerOn = false
+readsOrSends (ConvertSecond local high low) = false
+readsOrSends (OpenSecond local) = false
 
 -- record number k + 1 of a capture is this event
 pub record Next (capture : List ℕ) (k : ℕ) (e : Event) : Type 0 where
