@@ -1,10 +1,10 @@
 -- A record's answer, by the account. `answering`: the first answer byte of a capture's record is that of the bus before it and the record's event.
 -- `some-record`: every number up to the record count has its event. `taken-bit`: of an accepted capture, D3 of a conversion's answer is set exactly if the account before it says that it is taken.
 -- Assumes nothing.
-use mathlib.Core.Path.{_≡_, refl, sym, ap, subst, _∙_}
-use mathlib.Core.Bool.{Bool, true, false, not, cond, _||_, _&&_, and-true, and-false, or-false}
+use mathlib.Core.Path.{_≡_, refl, sym, ap, _∙_}
+use mathlib.Core.Bool.{Bool, true, false, not, cond, _||_, and-true, and-false, or-false}
 use mathlib.Core.List.{List, [], _∷_}
-use Prim.Native.Nat.{ℕ, zero, suc, _*_, _≤_, _<_}
+use Prim.Native.Nat.{ℕ, zero, suc, _*_, _<_}
 use native.Mathlib.Omega.{arith}
 use lib.Dec.{eqb}
 use lib.ListN.{length, getD, take, drop}
@@ -12,7 +12,6 @@ use Rattle.laws.proofs.Choices.{by-test, clash}
 use Rattle.temperature.specs.declared.Reading.{Reading}
 use Rattle.registers.specs.Bits.{has, standby}
 use Rattle.device.specs.declared.Device.{Device}
-use Rattle.device.specs.declared.Outcome.{Outcome}
 use Rattle.device.specs.declared.Pins.{Pins}
 use Rattle.device.specs.declared.Event.{Event}
 use Rattle.device.specs.declared.Event.the-variants.{Write, Read, Send, Receive, Convert, Open, PowerOn, ConvertSecond, OpenSecond}
@@ -23,14 +22,13 @@ use Rattle.device.specs.Step.{effectOf}
 use Rattle.device_laws.proofs.Bits.{has-or, bit-of}
 use Rattle.pair.specs.declared.Bus.{Bus}
 use Rattle.pair.specs.declared.Named.the-variants.{First}
-use Rattle.pair.specs.Bus.{twoOf, pickedOf, amongOf, namesOf, Done, doneOf, busEffectOf, linesOf, busAnswerOf}
+use Rattle.pair.specs.Bus.{twoOf, pickedOf, amongOf, namesOf, Done, busEffectOf, linesOf, busAnswerOf}
 use Rattle.pair.proofs.Kept.{same-count}
 use Rattle.pair_laws.specs.Devices.{presentOf, conversionOf}
 use Rattle.pair_laws.specs.Seen.{busAfter, busAnswers}
-use Rattle.capture.specs.Whole.{wholeOf}
 use Rattle.capture_laws.specs.Events.{eventsOf, busIn, answeredBytes}
 use Rattle.capture_laws.proofs.Stepping.{step-by-step}
-use Rattle.history.specs.Account.{InForce, isTaken, accountOf, onBus}
+use Rattle.history.specs.Account.{isTaken, accountOf, onBus}
 use Rattle.history.specs.Verdict.{Next}
 use Rattle.history.specs.Latches.{Accepted, recordCount, front, stateAfter, answerAt, D3At, inForceOf}
 use Rattle.history.proofs.WithoutD7.{low-bit}

@@ -1,9 +1,9 @@
 -- `fed-state`: the state that feeding leaves, call by call with whatever buffers, after 7 too, is that of the whole-capture definition for the bytes
 -- consumed so far.
 -- Assumes nothing.
-use mathlib.Core.Path.{_≡_, refl, sym, ap, subst, _∙_}
+use mathlib.Core.Path.{_≡_, sym, ap, subst, _∙_}
 use mathlib.Core.Bool.{true}
-use mathlib.Core.List.{List, _++_}
+use mathlib.Core.List.{List}
 use mathlib.Core.Logic.{_⊎_, inl, inr}
 use Prim.Native.Nat.{ℕ}
 use native.Mathlib.Omega.{arith}
@@ -12,7 +12,6 @@ use lib.Seq.{take-length}
 use Rattle.capture.specs.declared.Reader.{Reader}
 use Rattle.capture.specs.Reader.{Out, freshOf, feedOf, callOf, rangesOf}
 use Rattle.capture.specs.Whole.{wholeOf}
-use Rattle.capture_laws.specs.Schedule.{Bytes}
 use Rattle.capture_laws.proofs.Run.{runOf, run-nil, run-append, feed-run, feed-ranges}
 use Rattle.capture_laws.proofs.Sections.{whole-run}
 use Rattle.capture_laws.proofs.Cuts.{fresh-ranges}

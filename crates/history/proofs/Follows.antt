@@ -4,7 +4,7 @@
 -- Assumes nothing.
 use mathlib.Core.Path.{_≡_, refl, sym, ap, subst, _∙_}
 use mathlib.Core.Bool.{Bool, true, false, not, cond, _||_, _&&_, and-true, or-false}
-use mathlib.Core.List.{List, [], _∷_}
+use mathlib.Core.List.{List, _∷_}
 use Prim.Native.Nat.{ℕ}
 use native.Mathlib.Omega.{arith}
 use lib.IntN.{ℤ}
@@ -13,18 +13,18 @@ use lib.Bits.{bitAnd}
 use Rattle.laws.proofs.Choices.{cond-ind, clash}
 use lib.Signed.{ltZ}
 use Rattle.temperature.specs.declared.Reading.{Reading}
-use Rattle.temperature.specs.Temperature.{openReading, aboveOf, clearedOf}
+use Rattle.temperature.specs.Temperature.{openReading, clearedOf}
 use Rattle.temperature.proofs.Whole.{whole, in-degrees}
 use Rattle.registers.specs.Bits.{has, standby, faultQueue}
-use Rattle.registers.specs.Page.{writableOf, readableOf, knownOf, oneShot, settingOf, changedOf, readAtOf, keptOf, powerOnOf, addressOf}
+use Rattle.registers.specs.Page.{writableOf, readableOf, knownOf, oneShot, settingOf, changedOf, readAtOf, keptOf, addressOf}
 use Rattle.conversion.specs.declared.Sensed.{Sensed}
-use Rattle.conversion.specs.Conversion.{readingOf, localLimitsOf, remoteLimitsOf, outOf, queuedOf, shownOf, sensedOf, faultsOf, remoteOutOf}
-use Rattle.conversion.specs.Conversion.{latchOf, localOutOf, localOf, remoteShownOf}
+use Rattle.conversion.specs.Conversion.{readingOf, localLimitsOf, remoteLimitsOf, outOf, queuedOf, shownOf, sensedOf, faultsOf}
+use Rattle.conversion.specs.Conversion.{latchOf, localOutOf, remoteShownOf}
 use Rattle.device.specs.declared.Device.{Device}
 use Rattle.device.specs.declared.Outcome.{Outcome}
 use Rattle.device.specs.declared.Event.{Event}
 use Rattle.device.specs.declared.Event.the-variants.{Write, Read, Send, Receive, Convert, Open, PowerOn, ConvertSecond, OpenSecond}
-use Rattle.device.specs.Bus.{silentOf, answeredOf, standbyOf, pointedOf, maskedOf, statusClearedOf, storedOf, firedOf, writtenOf, putOf, getOf, pointOf, respondsOf, respondOf}
+use Rattle.device.specs.Bus.{silentOf, answeredOf, pointedOf, maskedOf, statusClearedOf, storedOf, firedOf, putOf, getOf, pointOf, respondsOf, respondOf}
 use Rattle.device.specs.Bus.{takesOf, convertedOf, takingOf, senseOf, poweredOf, alertResponse, atOf}
 use Rattle.device.specs.Step.{effectOf}
 use Rattle.device.proofs.AfterRead.{read-ind}
@@ -32,7 +32,7 @@ use Rattle.device_laws.proofs.AfterConversion.{after-conversion}
 use Rattle.pair_laws.specs.Devices.{conversionOf, isAlertResponse}
 use Rattle.history.specs.Account.{InForce, Taken, Account, Owner, withoutD7, startOf, storeIn, askIn, writeIn, isTaken, takenAs, withTaken, convertIn}
 use Rattle.history.specs.Account.{sampleIn, notedOf}
-use Rattle.history.specs.Verdict.{Channel, localChannel, remoteChannel, critOf, readAs, liveAt, belowAt, verdictOf, latestLive}
+use Rattle.history.specs.Verdict.{Channel, localChannel, remoteChannel, critOf, readAs, liveAt, belowAt, verdictOf}
 use Rattle.history.specs.Latches.{latchAt, critBit, Tells, inForceOf}
 use Rattle.history.proofs.WithoutD7.{low-bit, masking, changing, same-reading, same-limits, same-crit, same-hysteresis}
 use Rattle.history.proofs.Verdicts.{latching}

@@ -8,3 +8,5 @@ pub mod History
 pub mod Answers
 pub mod Quiet
 pub mod Pin
+pub mod Listed
+pub mod Quoted

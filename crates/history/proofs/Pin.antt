@@ -6,9 +6,8 @@ use mathlib.Core.Path.{_≡_, refl, sym, ap, _∙_}
 use mathlib.Core.Logic.{_↔_}
 use mathlib.Core.Bool.{Bool, true, false, not, _||_, _&&_, or-false}
 use mathlib.Core.List.{List}
-use Prim.Native.Nat.{ℕ, suc, _*_, _≤_, _<_}
+use Prim.Native.Nat.{ℕ, suc, _≤_, _<_}
 use native.Mathlib.Omega.{arith}
-use lib.ListN.{getD}
 use Rattle.laws.proofs.Choices.{by-test, and-left, and-right, or-left, or-right, clash}
 use Rattle.registers.specs.Bits.{has}
 use Rattle.registers.specs.Page.{settingOf}
@@ -16,8 +15,7 @@ use Rattle.device.specs.declared.Device.{Device}
 use Rattle.device.specs.declared.Event.{Event}
 use Rattle.device.specs.Pins.{configurationOf, tcritOf, pinsOf}
 use Rattle.pair.specs.declared.Bus.{Bus}
-use Rattle.pair.specs.Bus.{twoOf, busEffectOf, linesOf}
-use Rattle.capture.specs.Whole.{wholeOf}
+use Rattle.pair.specs.Bus.{busEffectOf, linesOf}
 use Rattle.history.specs.Account.{InForce, Account, Owner, accountOf, onBus}
 use Rattle.history.specs.Verdict.{Channel, localChannel, remoteChannel, maskOf, verdictOf, maskedIn, pullsIn, pullsBy, pulledAfter, PulledBy, Next, readsOrSends}
 use Rattle.history.specs.Latches.{Accepted, recordCount, stateAfter, D1At}

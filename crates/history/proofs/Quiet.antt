@@ -4,7 +4,7 @@
 -- before it bears on nothing after it.
 -- Assumes nothing.
 use mathlib.Core.Path.{_≡_, refl, sym, ap, _∙_}
-use mathlib.Core.Bool.{Bool, true, false, not, cond, _||_, or-false}
+use mathlib.Core.Bool.{Bool, true, false, not, cond, or-false}
 use mathlib.Core.List.{List, [], _∷_, _++_}
 use Prim.Native.Nat.{ℕ, suc, _+_, _≤_}
 use native.Mathlib.Omega.{arith}
@@ -45,7 +45,7 @@ module _ (o : Owner) (number : ℕ) (a : Account) where
   second true b h = clash (sym h)
   second false b h = refl
 
-  noted-stays : (e : Event) → mayMove (o .second) e ≡ false → Same (notedOf o number a e)
+  pub noted-stays : (e : Event) → mayMove (o .second) e ≡ false → Same (notedOf o number a e)
   unfolding notedOf
   noted-stays (Write x w v) h = cond-ind Same (eqb x (addressOf (o .variant))) (λ _. write-stays w v) (λ _. refl)
   noted-stays (Read x r) h = refl

@@ -10,10 +10,9 @@ use native.Mathlib.Nat.{add-zero}
 use lib.Dec.{eqb}
 use lib.ListN.{length, getD, take, drop}
 use Rattle.laws.proofs.Choices.{by-test, and-left, clash}
-use Rattle.registers.specs.Page.{addressOf}
 use Rattle.device.specs.declared.Device.{Device}
 use Rattle.device.specs.declared.Event.{Event}
-use Rattle.device.specs.Bus.{poweredOf, zeroDevice}
+use Rattle.device.specs.Bus.{poweredOf}
 use Rattle.device.specs.Ranges.{variantOf, rangedOf, operandsOf, secondOf}
 use Rattle.device.specs.Step.{effectOf, refusedOf, steppedOf, stepOf}
 use Rattle.device.specs.Run.{repliesOf, afterOf}

@@ -1,7 +1,7 @@
 -- `verdict`: what is computed of an account is what request e says: some taken conversion made the bit live, and none after it read below.
 -- `latching`: a conversion more moves it as P8 moves a latch.
 -- Assumes nothing.
-use mathlib.Core.Path.{_≡_, refl, sym, ap}
+use mathlib.Core.Path.{_≡_, refl, ap}
 use mathlib.Core.Logic.{_↔_}
 use mathlib.Core.Bool.{Bool, true, false, not, _||_, _&&_}
 use mathlib.Core.List.{List, [], _∷_, _++_}
