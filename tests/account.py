@@ -2,8 +2,10 @@
 """Request e: the account takes records and settings only. Exits 1, and names the way, if a file of the account (crates/history/specs: Account.antt,
 Verdict.antt) imports or names a definition or a type that reaches the model's state or its effects: what FORBIDDEN lists, by whatever definitions and files.
 
-What a name reaches is followed definition by definition, through imports, constructors, and the fields of the program's own types. A name that is
-imported from a crate and not found there, an import of another form than `use MODULE.{NAMES}`, and a forbidden name that no longer exists are faults too.
+What a name reaches is followed definition by definition, through imports, constructors, and the fields of the program's own types. In every file that is
+read these are faults too, since a name could come in by them unseen: an import of another form than `use MODULE.{NAMES}`, one of a crate's proofs, one of a
+name that is not there, a name by its whole path, a module within a module, and an operator's definition. And so is a forbidden name that no longer exists.
+A latch of the account's own making, kept by its own rule, would pass: that there is none is to be seen by reading the two files.
 """
 import pathlib
 import re
@@ -18,69 +20,75 @@ FORBIDDEN = (
     "device/specs/Pins.antt: alertOf", "device/specs/Pins.antt: tcritOf", "device/specs/Bus.antt: statusReadOf", "device/specs/Step.antt: effectOf",
     "pair/specs/Bus.antt: busEffectOf", "capture/specs/Whole.antt: wholeOf", "capture/specs/Reader.antt: turnOf",
 )
-USE = re.compile(r"use (\S+?)\.\{(.*)\}$")
+USE = re.compile(r"use (\S+?)\.\{([^{}]*)\}$")
 CRATE = re.compile(r"Rattle·(\w+)(?:·specs)?\.specs\.(.+)$")
 KEYWORDS = re.compile(r"(?:abbrev |unfoldable |pub |data |record )*")
-WORD = re.compile(r"(?<![^\s(){}\[\],;λ])[^\s(){}\[\],;.]+")
-LAYOUT = {"module", "infix", "infixl", "infixr", "unfolding", "where"}
+WORD = re.compile(r"[^\s(){}\[\],;.]+")
+LAYOUT = {"infix", "infixl", "infixr", "unfolding", "where"}
 
 
 class Fault(Exception):
     pass
 
 
-def words(text):
-    """The names that a text has; a projection, `x .field`, is none."""
-    return {word for word in WORD.findall(re.sub(r"\s\.[^\s(){}\[\],;.]+", " ", text))}
-
-
 class Specs:
-    """One file of definitions: what it imports, and the text of each of its definitions."""
+    """One file of definitions: what it imports, the text of each of its definitions, and which of them has each name."""
 
     def __init__(self, crates, name):
-        self.imports, self.texts, self.owner = {}, {}, {}
+        self.name, self.imports, self.texts, self.owner = name, {}, {}, {}
+        self.header, self.open_header, self.item = "", False, None
         path = crates / name
         if not path.is_file():
             raise Fault(f"no file {path}")
-        header = ""
-        item = None
         for line in path.read_text().split("\n"):
-            line = re.sub(r"(^|\s)--\s.*$", "", line).rstrip()
-            if not line:
-                continue
-            if line.startswith("use "):
-                self.read_use(name, line)
-                continue
-            if not line.startswith(" "):
-                header = ""
-            head = line.strip()
-            if head.startswith("module "):
-                header, item = head, None
-            elif self.begins(line, header):
-                item = KEYWORDS.sub("", head, count=1).split()[0]
-                self.add(item, item, f"{header}\n{head}")
-            elif item is not None:
-                self.add(item, item, head)
-                field = re.match(r"(?:pub )?(\S+) : ", head)
-                if field and re.match(r"(abbrev |unfoldable )?(pub )?data ", self.texts[item].strip()):
-                    self.owner[field.group(1)] = item
+            line = re.sub(r"(^|\s)--(\s.*)?$", "", line).rstrip()
+            if line:
+                self.read(line)
 
-    @staticmethod
-    def begins(line, header):
-        """A line at the margin, or at the margin of a module's body, begins or goes on with a definition."""
-        indent = len(line) - len(line.lstrip())
-        return indent == (2 if header else 0) and line.split()[0] not in LAYOUT
+    def refuse(self, what, line):
+        raise Fault(f"{self.name}: {what}: {line.strip()}")
 
-    def read_use(self, name, line):
+    def read(self, line):
+        head, indent = line.strip(), len(line) - len(line.lstrip())
+        first = re.sub(r"^(?:pub |unfoldable )*", "", head).split()[0]
+        if first == "use":
+            self.read_use(line)
+        elif "Rattle·" in line:
+            self.refuse("a name by its whole path", line)
+        elif first == "mutual" or (first == "module" and (indent > 0 or not head.startswith("module _"))):
+            self.refuse("a module that this test does not read", line)
+        elif first == "module" or self.open_header:
+            self.header = head if first == "module" else f"{self.header}\n{head}"
+            self.item, self.open_header = None, not head.endswith("where")
+        else:
+            if indent == 0:
+                self.header = ""
+            self.read_definition(head, indent)
+
+    def read_definition(self, head, indent):
+        """A line at the margin, or at that of a module's body, begins or goes on with a definition; any other belongs to the one before it."""
+        begins = indent == (2 if self.header else 0) and head.split()[0] not in LAYOUT
+        if begins:
+            self.item = KEYWORDS.sub("", head, count=1).split()[0]
+        elif self.item is None:
+            self.refuse("a line of no definition", head)
+        if "_" in self.item:
+            self.refuse("an operator's definition", head)
+        text = self.texts.get(self.item, self.header)
+        constructor = re.match(r"(\S+) : ", head)
+        if constructor and not begins and re.match(r"(?:pub )?data ", text.strip()):
+            self.owner[constructor.group(1)] = self.item
+        self.owner[self.item] = self.item
+        self.texts[self.item] = f"{text}\n{head}"
+
+    def read_use(self, line):
         use = USE.match(line)
         if not use or " as " in line:
-            raise Fault(f"{name}: an import that this test does not read: {line}")
+            self.refuse("an import that this test does not read", line)
+        if use.group(1).startswith("Rattle·") and not CRATE.match(use.group(1)):
+            self.refuse("an import that is not of a crate's definitions", line)
         for word in use.group(2).split(","):
             self.imports[word.strip()] = use.group(1)
-
-    def add(self, name, item, text):
-        self.owner[name] = item
-        self.texts[item] = self.texts.get(item, "") + "\n" + text
 
 
 class Reach:
@@ -125,7 +133,7 @@ class Reach:
             return
         file, item = node.split(": ")
         specs = self.specs(file)
-        for word in sorted(words(specs.texts[item])):
+        for word in sorted(set(WORD.findall(specs.texts[item]))):
             if word in specs.owner:
                 yield f"{file}: {specs.owner[word]}"
             elif word in specs.imports:

@@ -25,6 +25,17 @@ CASES = (
      "oneShot = alertOf\n\nuse Rattle.device.specs.Pins.{alertOf}\n", "oneShot > device/specs/Pins.antt: alertOf"),
     ("a name that is not there", FIRST, STANDBY, "use Rattle.device.specs.Bus.{standbyOf, standsBy}\n", "device/specs/Bus.antt has no standsBy"),
     ("an import of a whole file", FIRST, STANDBY, STANDBY + "use Rattle.device.specs.Step as step\n", "an import that this test does not read"),
+    ("a name by its whole path", FIRST, "isTaken f = not", "isTaken f = Rattle.device.specs.Step.effectOf f || not", "a name by its whole path"),
+    ("an import that is passed on", FIRST, STANDBY, STANDBY + "pub use Rattle.device.specs.Step.{effectOf}\n", "an import that this test does not read"),
+    ("an operator", "device/specs/Bus.antt", "-- P10: the pointer set\n", "abbrev pub _⊛_ : List ℕ → ℕ → Bool\ns ⊛ v = true\n\n", "an operator's definition"),
+    ("a module within a module", "registers/specs/Page.antt", "module _ {A : Type 0} where\n",
+     "module _ {A : Type 0} where\n  module _ (n : ℕ) where\n    hidden : ℕ\n    hidden = n\n\n", "a module that this test does not read"),
+    ("a mutual block", "registers/specs/Page.antt", "-- ---- R and W\n", "mutual\n  hidden : ℕ\n", "a module that this test does not read"),
+    ("an import of proofs", FIRST, STANDBY, STANDBY + "use Rattle.capture_laws.proofs.Run.{runOf}\n", "an import that is not of a crate's definitions"),
+    ("a name behind a point without a blank", "capture_laws/specs/Events.antt", "eventsOf xs = eventsBehind (countHeader xs)",
+     "eventsOf xs = (λ ys.wholeOf ys .code) (eventsBehind (countHeader xs))", "eventsOf > capture/specs/Whole.antt: wholeOf"),
+    ("a name in the parameters of a module", "registers/specs/Page.antt", "module _ {A : Type 0} where\n",
+     "use Rattle.device.specs.declared.Device.{Device}\nmodule _ {A : Type 0}\n    (d : Device) where\n", "onPosition > device::Device"),
     ("the state renamed", "device/src/lib.rt", "struct Device", "struct Sensor", "no type Device in crate device"),
 )
 

@@ -16,8 +16,8 @@ use Rattle.capture_laws.proofs.Run.{runOf, run-nil, run-append, feed-run, feed-
 use Rattle.capture_laws.proofs.Sections.{whole-run}
 use Rattle.capture_laws.proofs.Cuts.{fresh-ranges}
 use Rattle.capture_laws.proofs.Places.{feed-stands}
-use Rattle.history.specs.Latches.{Fed}
-use Rattle.history.specs.Latches.Fed.{fresh, called}
+use Rattle.history.specs.Latches.{FeedsTo}
+use Rattle.history.specs.Latches.FeedsTo.{fresh, called}
 
 -- a call that gives 0 or 7 leaves the state of the run over what it consumed
 run-consumed : (s : Reader) (part : List ℕ) (room : ℕ) → rangesOf s ≡ true → (feedOf s part room .code ≡ 0) ⊎ (feedOf s part room .code ≡ 7)
@@ -35,7 +35,7 @@ record Stand (bytes : List ℕ) (s : Reader) : Type 0 where
   run : runOf freshOf bytes .reader ≡ s
   ranges : rangesOf s ≡ true
 
-stand : {bytes : List ℕ} {s : Reader} → Fed bytes s → Stand bytes s
+stand : {bytes : List ℕ} {s : Reader} → FeedsTo bytes s → Stand bytes s
 stand fresh = record { run = ap (λ (o : Out). o .reader) (run-nil freshOf); ranges = fresh-ranges }
 stand (called {bytes} {s} {r} part entry exit f b m c) =
     let before = stand f in
@@ -55,5 +55,5 @@ stand (called {bytes} {s} {r} part entry exit f b m c) =
       ranges = subst (λ (t : Reader). rangesOf t ≡ true) (sym reader) (feed-ranges s part room b h);
     }
 
-pub fed-state : {bytes : List ℕ} {s : Reader} → Fed bytes s → s ≡ wholeOf bytes .reader
+pub fed-state : {bytes : List ℕ} {s : Reader} → FeedsTo bytes s → s ≡ wholeOf bytes .reader
 fed-state {bytes} f = sym (stand f .run) ∙ ap (λ (o : Out). o .reader) (whole-run bytes)

@@ -60,7 +60,8 @@ module _ (d : Device) where
   masked : (n : Device) → Still d n → Still d (maskedOf n)
   unfolding maskedOf
   masked n s =
-      let same : inForceOf (maskedOf n) ≡ inForceOf n = ap (λ (l : List ℕ). record { settings = l; pending = n .pending; faults = n .sensed .faults }) (masking (n .settings)) in
+      let same : inForceOf (maskedOf n) ≡ inForceOf n =
+      ap (λ (l : List ℕ). record { settings = l; pending = n .pending; faults = n .sensed .faults }) (masking (n .settings)) in
       record { variant = s .variant; inForce = same ∙ s .inForce; sensed = s .sensed }
 
   reads : (r : ℕ) → StillBy (getOf d r)

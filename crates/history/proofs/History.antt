@@ -1,9 +1,10 @@
 -- Request e. `history`: of every accepted capture, after any of its records, for each device on its bus and each channel, the latch is set exactly
 -- if some taken conversion since the last power-on made the channel's T_CRIT bit live under the settings then in force, and no taken conversion
--- after it read strictly below the limit less hysteresis in force at that later one; `history-clear`: it is clear exactly if not. `history-fed`: so is the latch of every state that feeding the
--- capture's bytes leaves, wherever they end behind the header, within a record and after 7 too. `history-of-bytes`: and that of any byte string,
--- accepted or not, after its complete, counted, valid records up to the first refused one. `in-force`: the account's settings are the device's but for
--- D7, and its one-shot and fault count are the device's. `tells`: latches, LCRIT and RCRIT of the live byte, and both readings are those that the account says.
+-- after it read strictly below the limit less hysteresis in force at that later one. `history-clear`: it is clear exactly if not. `history-fed`: so is the
+-- latch of every state that feeding the capture's bytes leaves, wherever they end behind the header, within a record and after 7 too.
+-- `history-of-bytes`: and that of any byte string, accepted or not, after its complete, counted, valid records up to the first refused one. `in-force`: the
+-- account's settings are the device's but for D7, and its one-shot and fault count are the device's. `tells`: latches, LCRIT and RCRIT of the live
+-- byte, and both readings are those that the account says.
 -- Assumes nothing.
 use mathlib.Core.Path.{_≡_, refl, sym, ap, subst, _∙_}
 use mathlib.Core.Logic.{_↔_}
@@ -25,7 +26,7 @@ use Rattle.capture_laws.specs.Events.{eventsOf, busIn}
 use Rattle.capture_laws.proofs.Stepping.{step-by-step}
 use Rattle.history.specs.Account.{Account, Owner, startOf, accountFrom, ownerIn, accountOf, onBus}
 use Rattle.history.specs.Verdict.{Channel, SetBy}
-use Rattle.history.specs.Latches.{Accepted, recordCount, headerBytes, stateAfter, latchAt, Tells, inForceOf, deviceIn, sensedIn, latchIn, Fed}
+use Rattle.history.specs.Latches.{Accepted, recordCount, headerBytes, stateAfter, latchAt, Tells, inForceOf, deviceIn, sensedIn, latchIn, FeedsTo}
 use Rattle.history.proofs.Verdicts.{verdict}
 use Rattle.history.proofs.Follows.{Follows}
 use Rattle.history.proofs.Rows.{of-bytes}
@@ -60,7 +61,8 @@ module _ (xs : List ℕ) (accepted : Accepted xs) (second : Bool) (there : onBus
       let h = header xs accepted in
       let ys = take (headerBytes xs + m) xs in
       let d = deviceIn (wholeOf ys .reader) second in
-      subst (λ (es : List Event). Follows (ownerIn xs second) d (accountFrom (ownerIn xs second) 1 (startOf (ownerIn xs second .variant)) es)) (front-events h m)
+      let o = ownerIn xs second in
+      subst (λ (es : List Event). Follows o d (accountFrom o 1 (startOf (o .variant)) es)) (front-events h m)
       (subst (λ (vs : List ℕ). Follows (by vs) d (accountFrom (by vs) 1 (startOf (by vs .variant)) (eventsOf ys))) (front-variants h m)
       (of-bytes ys second (here m)))
     where
@@ -82,7 +84,7 @@ module _ (xs : List ℕ) (accepted : Accepted xs) (second : Bool) (there : onBus
       take-own (suc k) (e ∷ es) = ap (λ (rest : List Event). e ∷ rest) (take-own k es)
 
   -- the state that feeding bytes of it leaves, wherever they end behind the header
-  follows-fed : (bytes rest : List ℕ) {s : Reader} → xs ≡ bytes ++ rest → headerBytes xs ≤ length bytes → Fed bytes s
+  follows-fed : (bytes rest : List ℕ) {s : Reader} → xs ≡ bytes ++ rest → headerBytes xs ≤ length bytes → FeedsTo bytes s
       → Follows (ownerIn xs second) (deviceIn s second) (accountOf xs second (s .done))
   follows-fed bytes rest {s} whole long f =
       let m = length bytes - headerBytes xs in
@@ -110,7 +112,7 @@ history-clear xs accepted k few second there ch =
     let h = history xs accepted k few second there ch in
     (λ e s. clash (sym e ∙ h .1 s), λ n. by-test (latchIn (stateAfter xs k) second ch) (λ e. absurd (n (h .0 e))) (λ e. e))
 
-pub history-fed : (xs : List ℕ) → Accepted xs → (bytes rest : List ℕ) (s : Reader) → xs ≡ bytes ++ rest → headerBytes xs ≤ length bytes → Fed bytes s
+pub history-fed : (xs : List ℕ) → Accepted xs → (bytes rest : List ℕ) (s : Reader) → xs ≡ bytes ++ rest → headerBytes xs ≤ length bytes → FeedsTo bytes s
     → (second : Bool) → onBus xs second ≡ true → (ch : Channel) → (latchIn s second ch ≡ true) ↔ SetBy ch (accountOf xs second (s .done) .taken)
 history-fed xs accepted bytes rest s whole long fed second there ch = by-account (follows-fed xs accepted second there bytes rest whole long fed) ch
 

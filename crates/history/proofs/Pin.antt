@@ -17,7 +17,8 @@ use Rattle.device.specs.Pins.{configurationOf, tcritOf, pinsOf}
 use Rattle.pair.specs.declared.Bus.{Bus}
 use Rattle.pair.specs.Bus.{busEffectOf, linesOf}
 use Rattle.history.specs.Account.{InForce, Account, Owner, accountOf, onBus}
-use Rattle.history.specs.Verdict.{Channel, localChannel, remoteChannel, maskOf, verdictOf, maskedIn, pullsIn, pullsBy, pulledAfter, PulledBy, Next, readsOrSends}
+use Rattle.history.specs.Verdict.{Channel, localChannel, remoteChannel, maskOf, verdictOf, maskedIn, pullsIn, pullsBy, pulledAfter, PulledBy}
+use Rattle.history.specs.Verdict.{Next, readsOrSends}
 use Rattle.history.specs.Latches.{Accepted, recordCount, stateAfter, D1At}
 use Rattle.history.proofs.WithoutD7.{low-bit}
 use Rattle.history.proofs.Verdicts.{verdict}

@@ -69,7 +69,9 @@ module _ (second : Bool) (variant : ℕ) where
       rest = seenIn (busEffectOf p e .bus) second es
 
       Rest : Type 0
-      Rest = (n : Device) (b : Account) → Follows owner n b → AllStepped (repliesOf n rest) → Follows owner (afterOf n rest) (accountFrom owner (number + 1) b es)
+      Rest =
+          (n : Device) (b : Account) → Follows owner n b → AllStepped (repliesOf n rest)
+          → Follows owner (afterOf n rest) (accountFrom owner (number + 1) b es)
 
       split : (sees : Bool) → seesOf p second e ≡ sees → AllStepped (repliesOf d (cond sees (asAlone e ∷ rest) rest)) → Rest
           → Follows owner (afterOf d (cond sees (asAlone e ∷ rest) rest)) (accountFrom owner (number + 1) (notedOf owner number a e) es)

@@ -127,7 +127,6 @@ histories =
     -- 85.125 sets with T_CRIT 85; a status read does not clear; hysteresis 5: 80.000 holds, 79.875 clears; the local channel reads 25
     of listing remoteChannel (false ∷ false ∷ false ∷ true ∷ true ∷ true ∷ true ∷ false ∷ false ∷ false ∷ []) ∷
     of listing localChannel (false ∷ false ∷ false ∷ false ∷ false ∷ false ∷ false ∷ false ∷ false ∷ false ∷ []) ∷
-
     -- strictly above: remote 110.000 does not set, 110.125 does; local 85 does not, 86 does
     of (line 0x05 25 110 0x00 ∷ line 0x05 25 110 0x20 ∷ []) remoteChannel (false ∷ false ∷ true ∷ []) ∷
     of (local 85 ∷ local 86 ∷ []) localChannel (false ∷ false ∷ true ∷ []) ∷
@@ -137,7 +136,6 @@ histories =
     of (local 86 ∷ local 75 ∷ local 74 ∷ []) localChannel (false ∷ true ∷ true ∷ false ∷ []) ∷
     -- local T_CRIT -128, hysteresis 1: -127 sets, and -128 is not below -129
     of (put 0x20 0x80 ∷ put 0x21 1 ∷ local 0x81 ∷ local 0x80 ∷ []) localChannel (false ∷ false ∷ false ∷ true ∷ true ∷ []) ∷
-
     -- the fault queue holds the bit back until the third fault in a row; without it the first sets, and 84 is not below 75
     of (queue 0x01) remoteChannel (false ∷ false ∷ false ∷ false ∷ false ∷ false ∷ false ∷ false ∷ false ∷ true ∷ []) ∷
     of (queue 0x00) remoteChannel (false ∷ false ∷ false ∷ false ∷ true ∷ true ∷ true ∷ true ∷ true ∷ true ∷ []) ∷
@@ -157,13 +155,11 @@ histories =
     -- T_CRIT of an open diode waits too; the local channel never does
     of (put 0x09 0x01 ∷ line 0x06 25 0 0 ∷ line 0x06 25 0 0 ∷ line 0x06 25 0 0 ∷ []) remoteChannel (false ∷ false ∷ false ∷ false ∷ true ∷ []) ∷
     of (put 0x09 0x01 ∷ local 86 ∷ []) localChannel (false ∷ false ∷ true ∷ []) ∷
-
     -- a mask does not matter: D4 and D2 set before the conversion, and none
     of (put 0x09 0x14 ∷ line 0x05 86 111 0 ∷ []) remoteChannel (false ∷ false ∷ true ∷ []) ∷
     of (put 0x09 0x14 ∷ line 0x05 86 111 0 ∷ []) localChannel (false ∷ false ∷ true ∷ []) ∷
     of (put 0x09 0x00 ∷ line 0x05 86 111 0 ∷ []) remoteChannel (false ∷ false ∷ true ∷ []) ∷
     of (put 0x09 0x00 ∷ line 0x05 86 111 0 ∷ []) localChannel (false ∷ false ∷ true ∷ []) ∷
-
     -- the hysteresis in force at the later conversion counts: with 5 a reading of 79 clears; raised to 10 in between, it holds
     of (crit85 (put 0x21 5 ∷ remote 86 ∷ remote 79 ∷ [])) remoteChannel (false ∷ false ∷ false ∷ false ∷ true ∷ false ∷ []) ∷
     of (crit85 (put 0x21 5 ∷ remote 86 ∷ put 0x21 10 ∷ remote 79 ∷ [])) remoteChannel (false ∷ false ∷ false ∷ false ∷ true ∷ true ∷ true ∷ []) ∷
@@ -174,7 +170,6 @@ histories =
     of (crit85 (remote 86 ∷ put 0x19 80 ∷ remote 71 ∷ [])) remoteChannel (false ∷ false ∷ false ∷ true ∷ true ∷ true ∷ []) ∷
     -- the limit in force at a conversion counts for setting: lowered behind it, nothing is set
     of (remote 86 ∷ put 0x19 85 ∷ []) remoteChannel (false ∷ false ∷ false ∷ []) ∷
-
     -- standby: not taken without a one-shot; with one, the first is taken and the second is not; two writes to 0F are one
     of (put 0x09 0x40 ∷ local 86 ∷ []) localChannel (false ∷ false ∷ false ∷ []) ∷
     of (put 0x09 0x40 ∷ put 0x0F 0 ∷ local 86 ∷ local 25 ∷ []) localChannel (false ∷ false ∷ false ∷ true ∷ true ∷ []) ∷
@@ -185,7 +180,6 @@ histories =
     of (put 0x09 0x40 ∷ put 0x0F 0 ∷ put 0x09 0x44 ∷ local 86 ∷ []) localChannel (false ∷ false ∷ false ∷ false ∷ true ∷ []) ∷
     -- a conversion that is not taken does not clear either
     of (local 86 ∷ put 0x09 0x40 ∷ local 25 ∷ []) localChannel (false ∷ true ∷ true ∷ true ∷ []) ∷
-
     -- power-on forgets the conversion, the settings, the faults, standby and a one-shot
     of (local 86 ∷ powerOn ∷ []) localChannel (false ∷ true ∷ false ∷ []) ∷
     of (put 0x20 25 ∷ powerOn ∷ local 26 ∷ []) localChannel (false ∷ false ∷ false ∷ false ∷ []) ∷
@@ -193,7 +187,6 @@ histories =
     (false ∷ false ∷ false ∷ false ∷ false ∷ false ∷ false ∷ []) ∷
     of (put 0x09 0x40 ∷ powerOn ∷ local 86 ∷ []) localChannel (false ∷ false ∷ false ∷ true ∷ []) ∷
     of (put 0x09 0x40 ∷ put 0x0F 0 ∷ powerOn ∷ put 0x09 0x40 ∷ local 86 ∷ []) localChannel (false ∷ false ∷ false ∷ false ∷ false ∷ false ∷ []) ∷
-
     -- an open diode reads 127, above 110, and no offset of -128 changes that
     of (put 0x11 0x80 ∷ line 0x06 25 0 0 ∷ []) remoteChannel (false ∷ false ∷ true ∷ []) ∷
     -- a sample counts with its offset: 110 plus 1, and 110 plus an eighth
@@ -202,13 +195,11 @@ histories =
     -- the sum is held: 254 is above 127 still; -256 is read as -128, which is not below -129
     of (put 0x19 127 ∷ put 0x11 127 ∷ remote 127 ∷ []) remoteChannel (false ∷ false ∷ false ∷ true ∷ []) ∷
     of (put 0x19 0x80 ∷ put 0x21 1 ∷ remote 25 ∷ put 0x11 0x80 ∷ remote 0x80 ∷ []) remoteChannel (false ∷ false ∷ false ∷ true ∷ true ∷ true ∷ []) ∷
-
     -- reads, sends, receives and writes at another address, to a register that is none and to one that is read only move no verdict: 74 clears by 75
     of (local 86 ∷ line 0x02 0x4C 0x02 0 ∷ line 0x03 0x4C 0x02 0 ∷ line 0x04 0x4C 0 0 ∷ putOther 0x20 0 ∷ put 0x30 0 ∷ put 0x03 0x40 ∷ local 74 ∷ [])
     localChannel (false ∷ true ∷ true ∷ true ∷ true ∷ true ∷ true ∷ true ∷ false ∷ []) ∷
     -- an alert response, acknowledged: it sets D7, as the status read behind it would
     of (local 86 ∷ line 0x04 0x0C 0 0 ∷ line 0x02 0x4C 0x02 0 ∷ local 75 ∷ local 74 ∷ []) localChannel (false ∷ true ∷ true ∷ true ∷ true ∷ false ∷ []) ∷
-
     -- two devices: 05 and 06 are of the first, 08 and 09 of the second, and the other's do not count, to set or to clear
     ofFirst (local 86 ∷ line 0x08 25 25 0 ∷ line 0x09 25 0 0 ∷ []) localChannel (false ∷ true ∷ true ∷ true ∷ []) ∷
     ofSecond (local 86 ∷ line 0x08 86 25 0 ∷ local 25 ∷ line 0x08 25 25 0 ∷ []) localChannel (false ∷ false ∷ true ∷ true ∷ false ∷ []) ∷

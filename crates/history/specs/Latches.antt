@@ -14,7 +14,7 @@ use Rattle.device.specs.declared.Event.{Event}
 use Rattle.pair.specs.Bus.{pickedOf}
 use Rattle.pair_laws.specs.Devices.{conversionOf, isPowerOn}
 use Rattle.capture.specs.declared.Reader.{Reader}
-use Rattle.capture.specs.declared.Fed.{Fed as Feeding}
+use Rattle.capture.specs.declared.Fed.{Fed}
 use Rattle.capture.specs.Reader.{freshOf, FedWith}
 use Rattle.capture.specs.Whole.{number, wholeOf}
 use Rattle.capture_laws.specs.Events.{eventsOf}
@@ -115,7 +115,7 @@ latchIn s second ch = latchAt ch (sensedIn s second)
 -- ---- the states that feeding leaves
 
 -- fed from a fresh state, call by call, with whatever buffers: after each call that gives 0 or 7, the bytes consumed so far, and the state that it left
-pub data Fed : List ℕ → Reader → Type 0 where
-  fresh : Fed [] freshOf
-  called : {bytes : List ℕ} {s : Reader} {r : Feeding} (part entry exit : List ℕ) → Fed bytes s → Bytes part → FedWith s part r entry exit
-      → (r .code ≡ 0) ⊎ (r .code ≡ 7) → Fed (bytes ++ take (r .consumed) part) (r .reader)
+pub data FeedsTo : List ℕ → Reader → Type 0 where
+  fresh : FeedsTo [] freshOf
+  called : {bytes : List ℕ} {s : Reader} {r : Fed} (part entry exit : List ℕ) → FeedsTo bytes s → Bytes part → FedWith s part r entry exit
+      → (r .code ≡ 0) ⊎ (r .code ≡ 7) → FeedsTo (bytes ++ take (r .consumed) part) (r .reader)

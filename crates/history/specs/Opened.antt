@@ -7,6 +7,11 @@ use Rattle.capture_laws.specs.Events.{eventsOf, variantsIn}
 use Rattle.history.specs.Account.{withoutD7, startOf, storeIn, askIn, writeIn, isTaken, convertIn, notedOf, accountFrom, accountOf}
 use Rattle.history.specs.Verdict.{liveAt, belowAt, verdictOf}
 
+-- what a capture's records are
+unfoldable recordsOpened : Unit {0}
+unfolding conversionOpened variantOf operandsOf codeOf decodeOf eventsOf variantsIn
+recordsOpened = tt
+
 unfoldable pub historyOpened : Unit {0}
-unfolding conversionOpened variantOf operandsOf codeOf decodeOf eventsOf variantsIn withoutD7 startOf storeIn askIn writeIn isTaken convertIn notedOf accountFrom accountOf liveAt belowAt verdictOf
+unfolding recordsOpened withoutD7 startOf storeIn askIn writeIn isTaken convertIn notedOf accountFrom accountOf liveAt belowAt verdictOf
 historyOpened = tt
