@@ -34,6 +34,7 @@ use Rattle.history.specs.Account.{InForce, Taken, Account, Owner, withou
 use Rattle.history.specs.Account.{sampleIn, notedOf}
 use Rattle.history.specs.Verdict.{Channel, localChannel, remoteChannel, critOf, readAs, liveAt, belowAt, verdictOf}
 use Rattle.history.specs.Latches.{latchAt, critBit, Tells, inForceOf}
+use Rattle.history.proofs.Negation.{double, not-false, not-true}
 use Rattle.history.proofs.WithoutD7.{low-bit, masking, changing, same-reading, same-limits, same-crit, same-hysteresis}
 use Rattle.history.proofs.Verdicts.{latching}
 
@@ -144,18 +145,6 @@ both : (P : Device → Account → Type 0) (t u : Bool) (x y : Outcome) (a b : A
 both P true u x y a b e f g = subst (λ (w : Bool). P (x .device) (cond w a b)) e f
 both P false u x y a b e f g = subst (λ (w : Bool). P (y .device) (cond w a b)) e g
 
-double : (b : Bool) → not (not b) ≡ b
-double true = refl
-double false = refl
-
-single : (b : Bool) → not b ≡ false → b ≡ true
-single true h = refl
-single false h = clash (sym h)
-
-other : (b : Bool) → not b ≡ true → b ≡ false
-other true h = clash h
-other false h = refl
-
 module _ (o : Owner) (number : ℕ) where
   pub begins : Follows o (poweredOf (o .variant)) (startOf (o .variant))
   unfolding poweredOf startOf verdictOf
@@ -229,7 +218,7 @@ module _ (o : Owner) (number : ℕ) where
     of-first {n} {a} c f = subst (λ (t : Bool). Follows o n (cond t account a)) (sym (sym (double (o .second)) ∙ c)) f
 
     of-second : {n : Device} {a : Account} → not (o .second) ≡ false → Follows o n a → Follows o n (cond (o .second) a account)
-    of-second {n} {a} c f = subst (λ (t : Bool). Follows o n (cond t a account)) (sym (single (o .second) c)) f
+    of-second {n} {a} c f = subst (λ (t : Bool). Follows o n (cond t a account)) (sym (not-false (o .second) c)) f
 
     own : (e : Event) → conversionOf (not (o .second)) e ≡ false → Follows o (effectOf d e .device) (notedOf o number account e)
     unfolding effectOf notedOf
@@ -262,5 +251,5 @@ module _ (o : Owner) (number : ℕ) where
   unnoted a (Convert local high low) h = rw (sym (double (o .second)) ∙ sym (or-false _) ∙ h)
   unnoted a (Open local) h = rw (sym (double (o .second)) ∙ sym (or-false _) ∙ h)
   unnoted a PowerOn h = clash h
-  unnoted a (ConvertSecond local high low) h = rw (other (o .second) (sym (or-false _) ∙ h))
-  unnoted a (OpenSecond local) h = rw (other (o .second) (sym (or-false _) ∙ h))
+  unnoted a (ConvertSecond local high low) h = rw (not-true (o .second) (sym (or-false _) ∙ h))
+  unnoted a (OpenSecond local) h = rw (not-true (o .second) (sym (or-false _) ∙ h))

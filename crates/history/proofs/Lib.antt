@@ -1,3 +1,4 @@
+pub mod Negation
 pub mod WithoutD7
 pub mod Verdicts
 pub mod Follows

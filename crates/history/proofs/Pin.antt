@@ -8,7 +8,7 @@ use mathlib.Core.Bool.{Bool, true, false, not, _||_, _&&_, or-false}
 use mathlib.Core.List.{List}
 use Prim.Native.Nat.{ℕ, suc, _≤_, _<_}
 use native.Mathlib.Omega.{arith}
-use Rattle.laws.proofs.Choices.{by-test, and-left, and-right, or-left, or-right, clash}
+use Rattle.laws.proofs.Choices.{by-test, and-left, and-right, or-left, or-right}
 use Rattle.registers.specs.Bits.{has}
 use Rattle.registers.specs.Page.{settingOf}
 use Rattle.device.specs.declared.Device.{Device}
@@ -20,6 +20,7 @@ use Rattle.history.specs.Account.{InForce, Account, Owner, accountOf, on
 use Rattle.history.specs.Verdict.{Channel, localChannel, remoteChannel, maskOf, verdictOf, maskedIn, pullsIn, pullsBy, pulledAfter, PulledBy}
 use Rattle.history.specs.Verdict.{Next, readsOrSends}
 use Rattle.history.specs.Latches.{Accepted, recordCount, stateAfter, D1At}
+use Rattle.history.proofs.Negation.{not-true}
 use Rattle.history.proofs.WithoutD7.{low-bit}
 use Rattle.history.proofs.Verdicts.{verdict}
 use Rattle.history.proofs.Follows.{Follows}
@@ -77,12 +78,8 @@ module _ (xs : List ℕ) (k : ℕ) where
         there = there;
         channel = ch;
         set = verdict ch (a .taken) .0 (and-left (verdictOf ch (a .taken)) (not (maskedIn ch a)) h);
-        unmasked = clear (maskedIn ch a) (and-right (verdictOf ch (a .taken)) (not (maskedIn ch a)) h);
+        unmasked = not-true (maskedIn ch a) (and-right (verdictOf ch (a .taken)) (not (maskedIn ch a)) h);
       }
-    where
-      clear : (b : Bool) → not b ≡ true → b ≡ false
-      clear true h = clash h
-      clear false h = refl
 
   of-device : (second : Bool) → onBus xs second ≡ true → pullsBy (accountOf xs second k) ≡ true → PulledBy xs k
   of-device second there h =

@@ -27,6 +27,7 @@ use Rattle.capture.specs.Whole.{wholeOf}
 use Rattle.capture_laws.specs.Events.{eventsOf, secondIn, variantsIn, busOf, busIn}
 use Rattle.capture_laws.proofs.Stepping.{step-by-step}
 use Rattle.history.specs.Account.{Account, Owner, startOf, notedOf, accountFrom, ownerIn}
+use Rattle.history.proofs.Negation.{not-true}
 use Rattle.history.proofs.Follows.{Follows, begins, own-record, unnoted}
 
 -- ---- a step with code 0 is the effect
@@ -48,10 +49,6 @@ unseen : (other response named : Bool) → (not other && (not response || named)
 unseen true response named h = refl
 unseen false true named h = refl
 unseen false false named h = clash (sym h)
-
-own-kind : (other : Bool) → not other ≡ true → other ≡ false
-own-kind true h = clash h
-own-kind false h = refl
 
 module _ (second : Bool) (variant : ℕ) where
   abbrev owner : Owner
@@ -77,7 +74,7 @@ module _ (second : Bool) (variant : ℕ) where
           → Follows owner (afterOf d (cond sees (asAlone e ∷ rest) rest)) (accountFrom owner (number + 1) (notedOf owner number a e) es)
       split true s c more =
           let one : stepOf d (asAlone e) .device ≡ effectOf d e .device = stepped d (asAlone e) (c .0) ∙ ap (λ o. o .device) (as-alone d e) in
-          let mine = own-kind (conversionOf (not second) e) (and-left _ (not (isAlertResponse e) || isNamed (namesOf p e) second) s) in
+          let mine = not-true (conversionOf (not second) e) (and-left _ (not (isAlertResponse e) || isNamed (namesOf p e) second) s) in
           more (stepOf d (asAlone e) .device) (notedOf owner number a e)
           (subst (λ (n : Device). Follows owner n (notedOf owner number a e)) (sym one) (own-record owner number f e mine)) (c .1)
       split false s c more =
