@@ -10,6 +10,8 @@
  *   listed          whole captures for the listing programs too
  *
  * The same bytes at each run. What it knows of the device serves to aim: it predicts no answer. */
+#include "chance.h"
+
 #include <stdbool.h>
 #include <stdint.h>
 #include <stdio.h>
@@ -52,30 +54,7 @@ enum { AT_VARIANT, AT_POINTER, AT_PENDING, AT_STATUS, AT_LOCAL, AT_REMOTE, AT_LI
        AT_REMOTE_LATCH, AT_SETTINGS, AT_LOW = AT_SETTINGS + SETTINGS, AT_LOW_KEPT };
 enum { AT_HEADER, AT_COUNT, AT_DONE = 5, AT_CARRIED = 9, AT_CARRY, AT_HELD = 13, AT_DEVICES, AT_FIRST, AT_SECOND = AT_FIRST + DEVICE_BYTES };
 
-#define COUNT_OF(table) (sizeof(table) / sizeof((table)[0]))
-#define ONE_OF(table) ((table)[below(COUNT_OF(table))])
-
 /* ---- Chance ------------------------------------------------------------ */
-
-static uint64_t chance_state;
-
-static uint32_t chance(void)
-{
-    uint64_t mixed = chance_state += 0x9E3779B97F4A7C15u;
-    mixed = (mixed ^ mixed >> 30) * 0xBF58476D1CE4E5B9u;
-    mixed = (mixed ^ mixed >> 27) * 0x94D049BB133111EBu;
-    return (uint32_t)(mixed >> 32);
-}
-
-static uint32_t below(size_t bound)
-{
-    return (uint32_t)(chance() % bound);
-}
-
-static bool one_in(uint32_t bound)
-{
-    return below(bound) == 0;
-}
 
 static uint8_t any_byte(void)
 {
