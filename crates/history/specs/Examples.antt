@@ -9,10 +9,12 @@ use mathlib.Core.List.{List, [], _∷_, map}
 use lib.IntN.{ℤ, pos}
 use lib.ListN.{length}
 use Rattle.registers.specs.Page.{settingOf}
+use Rattle.device.specs.declared.Event.{Event}
+use Rattle.device.specs.declared.Event.the-variants.{Write, Read, Send, Receive, Convert, Open, PowerOn, ConvertSecond, OpenSecond}
 use Rattle.capture.specs.Whole.{wholeOf}
 use Rattle.capture.specs.Opened.{captureOpened}
 use Rattle.history.specs.Account.{Taken, accountOf}
-use Rattle.history.specs.Verdict.{Channel, localChannel, remoteChannel, verdictAfter, pulledAfter}
+use Rattle.history.specs.Verdict.{Channel, localChannel, remoteChannel, verdictAfter, pulledAfter, mayMove, readsOrSends}
 use Rattle.history.specs.Opened.{historyOpened}
 
 -- ---- captures
@@ -288,6 +290,22 @@ pins =
 pub pinned : map (λ (p : Pulled). pulledFrom (p .capture) 0 (length (p .says))) pins ≡ map (λ (p : Pulled). p .says) pins
 unfolding historyOpened
 pinned = refl
+
+-- ---- which kinds move what
+
+-- an event of each kind, 01 to 09
+abbrev pub kinds : List Event
+kinds =
+    Write 0x4C 0x09 0 ∷ Read 0x4C 0x02 ∷ Send 0x4C 0x02 ∷ Receive 0x4C ∷ Convert 25 25 0 ∷ Open 25 ∷ PowerOn ∷ ConvertSecond 25 25 0 ∷ OpenSecond 25 ∷ []
+
+pub reading : map readsOrSends kinds ≡ false ∷ true ∷ true ∷ true ∷ false ∷ false ∷ false ∷ false ∷ false ∷ []
+reading = refl
+
+pub moving-first : map (mayMove false) kinds ≡ false ∷ false ∷ false ∷ false ∷ true ∷ true ∷ true ∷ false ∷ false ∷ []
+moving-first = refl
+
+pub moving-second : map (mayMove true) kinds ≡ false ∷ false ∷ false ∷ false ∷ false ∷ false ∷ true ∷ true ∷ true ∷ []
+moving-second = refl
 
 -- ---- every one of these captures is accepted
 
