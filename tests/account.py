@@ -133,6 +133,8 @@ class Reach:
             return
         file, item = node.split(": ")
         specs = self.specs(file)
+        if item not in specs.texts:
+            raise Fault(f"{file} has no {item}")
         for word in sorted(set(WORD.findall(specs.texts[item]))):
             if word in specs.owner:
                 yield f"{file}: {specs.owner[word]}"
@@ -148,9 +150,9 @@ class Reach:
                 yield f"{path.parts[-3]}::{word}"
 
     def ways(self, starts):
-        """For each node reached, the way to it."""
-        found = {start: [start] for start in starts}
-        left = list(starts)
+        """For each node reached from some ways, the way to it."""
+        found = {way[-1]: way for way in starts}
+        left = list(found)
         while left:
             node = left.pop()
             for other in self.next(node):
@@ -166,10 +168,10 @@ def faults(crates):
     try:
         for node in FORBIDDEN:
             list(reach.next(node))
-        starts = [f"{file}: {item}" for file in ACCOUNT for item in reach.specs(file).texts]
-        imports = [(file, reach.imported(module, word)) for file in ACCOUNT for word, module in reach.specs(file).imports.items()]
-        ways = reach.ways(starts + [node for _, node in imports if node])
-    except (Fault, KeyError) as fault:
+        own = [[f"{file}: {item}"] for file in ACCOUNT for item in reach.specs(file).texts]
+        imports = [[file, reach.imported(module, word)] for file in ACCOUNT for word, module in reach.specs(file).imports.items()]
+        ways = reach.ways([way for way in imports if way[-1]] + own)
+    except Fault as fault:
         return [str(fault)], 0
     told = [f"{node} is reached: {' > '.join(ways[node])}" for node in FORBIDDEN if node in ways]
     return told, len(ways)

@@ -13,7 +13,7 @@ STANDBY = "use Rattle.device.specs.Bus.{standbyOf}\n"
 FIRST, LATER = account.ACCOUNT
 # what it is, the file, its text, what stands in its place, and what is told
 CASES = (
-    ("the device imported", FIRST, STANDBY, STANDBY + "use Rattle.device.specs.declared.Device.{Device}\n", "device::Device is reached: device::Device"),
+    ("the device imported", FIRST, STANDBY, STANDBY + "use Rattle.device.specs.declared.Device.{Device}\n", "device::Device is reached: history/specs/Account.antt > device::Device"),
     ("what was sensed imported", LATER, QUEUE, QUEUE + "use Rattle.conversion.specs.declared.Sensed.{Sensed}\n", "conversion::Sensed is reached"),
     ("the effect imported", FIRST, STANDBY, STANDBY + "use Rattle.device.specs.Step.{effectOf}\n", "device/specs/Step.antt: effectOf is reached"),
     ("a test of the device imported", FIRST, STANDBY, "use Rattle.device.specs.Bus.{standbyOf, takesOf}\n", "takesOf > device::Device"),

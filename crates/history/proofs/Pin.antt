@@ -111,6 +111,7 @@ module _ (xs : List ℕ) (k : ℕ) where
         (by-channel (b .second) (b .channel) (rw (verdict (b .channel) _ .1 (b .set), b .unmasked))),
   )
 
+-- of record number k + 1, in words
 pub pin-exactly : (xs : List ℕ) → Accepted xs → (k : ℕ) → k < recordCount xs
     → (D1At xs k ≡ true) ↔ PulledBy xs (suc k)
 pin-exactly xs accepted k few =

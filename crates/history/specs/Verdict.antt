@@ -45,11 +45,11 @@ maskOf remoteChannel = remoteMask
 
 -- ---- one conversion
 
--- P3, P4, P5: it made the channel's T_CRIT bit live: it read strictly above the limit in force at it, and no queue held the bit back
+-- P3, P4, P5: it made the channel's T_CRIT bit live: it read strictly above the T_CRIT in force at it, and no queue held the bit back
 unfoldable pub liveAt : Channel → Taken → Bool
 liveAt ch t = aboveOf (readAs ch t) (eighthsOf (critOf ch (t .settings)) 0) && not (heldBack ch t)
 
--- P8: it read strictly below the limit less hysteresis, both in force at it
+-- P8: it read strictly below T_CRIT less hysteresis, both in force at it
 unfoldable pub belowAt : Channel → Taken → Bool
 belowAt ch t = clearedOf (readAs ch t) (critOf ch (t .settings)) (settingOf (t .settings) 0x21)
 
