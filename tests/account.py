@@ -4,7 +4,8 @@ Verdict.antt) imports or names a definition or a type that reaches the model's s
 
 What a name reaches is followed definition by definition, through imports, constructors, and the fields of the program's own types. In every file that is
 read these are faults too, since a name could come in by them unseen: an import of another form than `use MODULE.{NAMES}`, one of a crate's proofs, one of a
-name that is not there, a name by its whole path, a module within a module, and an operator's definition. And so is a forbidden name that no longer exists.
+name that is not there or that is imported already, a name by its whole path or in quotes, a module or a block within which others stand, a comment in braces,
+and an operator's definition. And so is a forbidden name that no longer exists.
 A latch of the account's own making, kept by its own rule, would pass: that there is none is to be seen by reading the two files.
 """
 import pathlib
@@ -20,11 +21,14 @@ FORBIDDEN = (
     "device/specs/Pins.antt: alertOf", "device/specs/Pins.antt: tcritOf", "device/specs/Bus.antt: statusReadOf", "device/specs/Step.antt: effectOf",
     "pair/specs/Bus.antt: busEffectOf", "capture/specs/Whole.antt: wholeOf", "capture/specs/Reader.antt: turnOf",
 )
+LIBRARIES = ("Prim", "lib", "mathlib", "native")
 USE = re.compile(r"use (\S+?)\.\{([^{}]*)\}$")
+MARKS = re.compile(r"(?:abbrev |unfoldable |pub )*")
 CRATE = re.compile(r"Rattle·(\w+)(?:·specs)?\.specs\.(.+)$")
 KEYWORDS = re.compile(r"(?:abbrev |unfoldable |pub |data |record )*")
 WORD = re.compile(r"[^\s(){}\[\],;.]+")
 LAYOUT = {"infix", "infixl", "infixr", "unfolding", "where"}
+REFUSED = {"mutual", "mod", "axiom", "ruleset", "open"}
 
 
 class Fault(Exception):
@@ -41,6 +45,8 @@ class Specs:
         if not path.is_file():
             raise Fault(f"no file {path}")
         for line in path.read_text().split("\n"):
+            if "{-" in line or "-}" in line:
+                self.refuse("a comment that this test does not read", line)
             line = re.sub(r"(^|\s)--(\s.*)?$", "", line).rstrip()
             if line:
                 self.read(line)
@@ -50,13 +56,15 @@ class Specs:
 
     def read(self, line):
         head, indent = line.strip(), len(line) - len(line.lstrip())
-        first = re.sub(r"^(?:pub |unfoldable )*", "", head).split()[0]
-        if first == "use":
+        first = MARKS.sub("", head, count=1).split()[0]
+        if re.search(r"[«»\"@]", line):
+            self.refuse("a name or a text in quotes", line)
+        elif first == "use":
             self.read_use(line)
-        elif "Rattle·" in line:
+        elif "Rattle·" in line or "package" in line:
             self.refuse("a name by its whole path", line)
-        elif first == "mutual" or (first == "module" and (indent > 0 or not head.startswith("module _"))):
-            self.refuse("a module that this test does not read", line)
+        elif first in REFUSED or (first == "module" and (indent > 0 or not head.startswith("module _"))):
+            self.refuse("a form that this test does not read", line)
         elif first == "module" or self.open_header:
             self.header = head if first == "module" else f"{self.header}\n{head}"
             self.item, self.open_header = None, not head.endswith("where")
@@ -85,10 +93,12 @@ class Specs:
         use = USE.match(line)
         if not use or " as " in line:
             self.refuse("an import that this test does not read", line)
-        if use.group(1).startswith("Rattle·") and not CRATE.match(use.group(1)):
-            self.refuse("an import that is not of a crate's definitions", line)
-        for word in use.group(2).split(","):
-            self.imports[word.strip()] = use.group(1)
+        if not CRATE.match(use.group(1)) and use.group(1).split(".")[0] not in LIBRARIES:
+            self.refuse("an import that is not of a crate's definitions or of a library", line)
+        for word in map(str.strip, use.group(2).split(",")):
+            if word in self.imports:
+                self.refuse("a name that is imported twice", line)
+            self.imports[word] = use.group(1)
 
 
 class Reach:
@@ -100,6 +110,8 @@ class Reach:
     def specs(self, name):
         if name not in self.files:
             self.files[name] = Specs(self.crates, name)
+            for word, module in self.files[name].imports.items():
+                self.imported(module, word)
         return self.files[name]
 
     def declared(self, crate, kind):

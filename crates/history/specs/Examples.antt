@@ -124,6 +124,10 @@ abbrev queue : ℕ → List Line
 queue configuration =
     put 0x09 configuration ∷ crit85 (remote 86 ∷ remote 86 ∷ remote 84 ∷ remote 86 ∷ remote 86 ∷ remote 86 ∷ [])
 
+-- an alert response with ALERT pulled, and a status read
+abbrev pub alerted : List Line
+alerted = local 86 ∷ line 0x04 0x0C 0 0 ∷ line 0x02 0x4C 0x02 0 ∷ local 75 ∷ local 74 ∷ []
+
 abbrev pub histories : List History
 histories =
     -- 85.125 sets with T_CRIT 85; a status read does not clear; hysteresis 5: 80.000 holds, 79.875 clears; the local channel reads 25
@@ -194,14 +198,14 @@ histories =
     -- a sample counts with its offset: 110 plus 1, and 110 plus an eighth
     of (put 0x11 1 ∷ remote 110 ∷ []) remoteChannel (false ∷ false ∷ true ∷ []) ∷
     of (put 0x12 0x20 ∷ remote 110 ∷ []) remoteChannel (false ∷ false ∷ true ∷ []) ∷
-    -- the sum is held: 254 is above 127 still; -256 is read as -128, which is not below -129
+    -- a sum of 254 does not go round, and is above 127; one of -256 is held: it is read as -128, which is not below -129
     of (put 0x19 127 ∷ put 0x11 127 ∷ remote 127 ∷ []) remoteChannel (false ∷ false ∷ false ∷ true ∷ []) ∷
     of (put 0x19 0x80 ∷ put 0x21 1 ∷ remote 25 ∷ put 0x11 0x80 ∷ remote 0x80 ∷ []) remoteChannel (false ∷ false ∷ false ∷ true ∷ true ∷ true ∷ []) ∷
     -- reads, sends, receives and writes at another address, to a register that is none and to one that is read only move no verdict: 74 clears by 75
     of (local 86 ∷ line 0x02 0x4C 0x02 0 ∷ line 0x03 0x4C 0x02 0 ∷ line 0x04 0x4C 0 0 ∷ putOther 0x20 0 ∷ put 0x30 0 ∷ put 0x03 0x40 ∷ local 74 ∷ [])
     localChannel (false ∷ true ∷ true ∷ true ∷ true ∷ true ∷ true ∷ true ∷ false ∷ []) ∷
-    -- an alert response, acknowledged: it sets D7, as the status read behind it would
-    of (local 86 ∷ line 0x04 0x0C 0 0 ∷ line 0x02 0x4C 0x02 0 ∷ local 75 ∷ local 74 ∷ []) localChannel (false ∷ true ∷ true ∷ true ∷ true ∷ false ∷ []) ∷
+    -- nor does an alert response, which is acknowledged here (`alert-answered`), nor the status read behind it
+    of alerted localChannel (false ∷ true ∷ true ∷ true ∷ true ∷ false ∷ []) ∷
     -- two devices: 05 and 06 are of the first, 08 and 09 of the second, and the other's do not count, to set or to clear
     ofFirst (local 86 ∷ line 0x08 25 25 0 ∷ line 0x09 25 0 0 ∷ []) localChannel (false ∷ true ∷ true ∷ true ∷ []) ∷
     ofSecond (local 86 ∷ line 0x08 86 25 0 ∷ local 25 ∷ line 0x08 25 25 0 ∷ []) localChannel (false ∷ false ∷ true ∷ true ∷ false ∷ []) ∷
@@ -210,12 +214,14 @@ histories =
     -- nor are the other's faults counted, or its conversions the ones that a one-shot waits for
     ofFirst (put 0x09 0x01 ∷ line 0x08 25 111 0 ∷ line 0x08 25 111 0 ∷ remote 111 ∷ []) remoteChannel (false ∷ false ∷ false ∷ false ∷ false ∷ []) ∷
     ofSecond (putOther 0x09 0x40 ∷ putOther 0x0F 0 ∷ local 86 ∷ line 0x08 86 25 0 ∷ []) localChannel (false ∷ false ∷ false ∷ false ∷ true ∷ []) ∷
-    -- a write at 4D is to the second alone, one at 4C to the first alone; in a header of the other order it is the other way round
+    -- a write at 4D is to the second alone, one at 4C to the first alone; in a header of the other order it is the other way round, alone too
     ofSecond (putOther 0x20 24 ∷ line 0x08 25 25 0 ∷ []) localChannel (false ∷ false ∷ true ∷ []) ∷
     ofSecond (put 0x20 24 ∷ line 0x08 25 25 0 ∷ []) localChannel (false ∷ false ∷ false ∷ []) ∷
     ofFirst (putOther 0x20 24 ∷ local 25 ∷ []) localChannel (false ∷ false ∷ false ∷ []) ∷
     ofTurned false (putOther 0x20 24 ∷ local 25 ∷ []) localChannel (false ∷ false ∷ true ∷ []) ∷
     ofTurned true (put 0x20 24 ∷ line 0x08 25 25 0 ∷ []) localChannel (false ∷ false ∷ true ∷ []) ∷
+    ofTurned false (put 0x20 24 ∷ local 25 ∷ []) localChannel (false ∷ false ∷ false ∷ []) ∷
+    ofTurned true (putOther 0x20 24 ∷ line 0x08 25 25 0 ∷ []) localChannel (false ∷ false ∷ false ∷ []) ∷
     -- 07 restarts both
     ofFirst (local 86 ∷ line 0x08 86 25 0 ∷ powerOn ∷ []) localChannel (false ∷ true ∷ true ∷ false ∷ []) ∷
     ofSecond (local 86 ∷ line 0x08 86 25 0 ∷ powerOn ∷ []) localChannel (false ∷ false ∷ true ∷ false ∷ []) ∷
@@ -307,7 +313,7 @@ moving-first = refl
 pub moving-second : map (mayMove true) kinds ≡ false ∷ false ∷ false ∷ false ∷ false ∷ false ∷ true ∷ true ∷ true ∷ []
 moving-second = refl
 
--- ---- every one of these captures is accepted
+-- ---- the captures of both tables are accepted
 
 abbrev codesOf : List ℕ → List ℕ
 codesOf capture = wholeOf capture .code ∷ wholeOf capture .finishing ∷ []
@@ -319,3 +325,8 @@ accepted = refl
 pub pins-accepted : map (λ (p : Pulled). codesOf (p .capture)) pins ≡ map (λ (p : Pulled). 0 ∷ 0 ∷ []) pins
 unfolding captureOpened
 pins-accepted = refl
+
+-- the alert response is answered, 99 of 4C, and lets ALERT go; the status read gives LHIGH and LCRIT; T_CRIT_A stays until 74
+pub alert-answered : wholeOf (oneOf alerted) .answers ≡ 0x0B ∷ 0 ∷ 0x06 ∷ 0x99 ∷ 0x06 ∷ 0x41 ∷ 0x0A ∷ 0 ∷ 0x08 ∷ 0 ∷ []
+unfolding captureOpened
+alert-answered = refl
