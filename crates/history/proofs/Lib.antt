@@ -10,4 +10,5 @@ pub mod Answers
 pub mod Quiet
 pub mod Pin
 pub mod Listed
+pub mod Entries
 pub mod Quoted

@@ -33,7 +33,7 @@ module _ (o : Owner) (number : ℕ) (a : Account) where
   same-either true = refl
   same-either false = refl
 
-  write-stays : (w v : ℕ) → Same (writeIn a w v)
+  pub write-stays : (w v : ℕ) → Same (writeIn a w v)
   unfolding writeIn askIn storeIn
   write-stays w v = cond-ind Same (writableOf w) (λ _. cond-ind Same (eqb w oneShot) (λ _. refl) (λ _. refl)) (λ _. refl)
 

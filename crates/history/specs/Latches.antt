@@ -2,7 +2,7 @@
 -- Assumes nothing.
 use Prim.Native.Nat.{ℕ, zero, suc, _+_, _*_}
 use mathlib.Core.Path.{_≡_}
-use mathlib.Core.Bool.{Bool, _&&_, cond}
+use mathlib.Core.Bool.{Bool, true, _&&_, cond}
 use mathlib.Core.List.{List, [], _∷_, _++_}
 use mathlib.Core.Logic.{_⊎_}
 use lib.ListN.{getD, take, drop}
@@ -19,7 +19,7 @@ use Rattle.capture.specs.Reader.{freshOf, FedWith}
 use Rattle.capture.specs.Whole.{number, wholeOf}
 use Rattle.capture_laws.specs.Events.{eventsOf}
 use Rattle.capture_laws.specs.Schedule.{Bytes}
-use Rattle.history.specs.Account.{InForce, Taken, withoutD7}
+use Rattle.history.specs.Account.{InForce, Taken, withoutD7, isTaken, accountOf}
 use Rattle.history.specs.Verdict.{Channel, localChannel, remoteChannel, verdictOf, latestLive}
 
 -- code 0 and finishing code 0
@@ -73,6 +73,20 @@ listedNext second number taken listed (e ∷ es) = listedBy second number taken 
 abbrev pub listedAfter : List ℕ → Bool → ℕ → List ℕ
 listedAfter capture second zero = []
 listedAfter capture second (suc k) = listedNext second (suc k) (D3At capture k) (listedAfter capture second k) (drop k (eventsOf capture))
+
+-- ---- what each conversion is listed with
+
+-- its number is that of a record behind so many; the settings are those in force before it, where it is taken; the fault count is that in force behind it
+pub record ListedWith (capture : List ℕ) (second : Bool) (t : Taken) : Type 0 where
+  pub before : ℕ
+  pub number : t .number ≡ suc before
+  pub taken : isTaken (accountOf capture second before .inForce) ≡ true
+  pub settings : t .settings ≡ accountOf capture second before .inForce .settings
+  pub faults : t .faults ≡ accountOf capture second (suc before) .inForce .faults
+
+abbrev pub EachListed : List ℕ → Bool → List Taken → Type 0
+EachListed capture second [] = Unit {0}
+EachListed capture second (t ∷ ts) = ListedWith capture second t × EachListed capture second ts
 
 -- ---- what a device has sensed, beside its account
 
