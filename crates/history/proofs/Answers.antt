@@ -3,24 +3,24 @@
 -- account before it says that it is taken.
 -- Assumes nothing.
 use mathlib.Core.Path.{_≡_, refl, sym, ap, _∙_}
-use mathlib.Core.Bool.{Bool, true, false, not, cond, _||_, and-true, and-false, or-false}
+use mathlib.Core.Bool.{Bool, true, false, not, _||_, and-true, and-false, or-false}
 use mathlib.Core.List.{List, [], _∷_}
 use Prim.Native.Nat.{ℕ, zero, suc, _*_, _<_}
 use native.Mathlib.Omega.{arith}
 use lib.Dec.{eqb}
 use lib.ListN.{length, getD, take, drop}
 use Rattle.laws.proofs.Choices.{by-test, clash}
-use Rattle.temperature.specs.declared.Reading.{Reading}
 use Rattle.registers.specs.Bits.{has, standby}
 use Rattle.device.specs.declared.Device.{Device}
 use Rattle.device.specs.declared.Pins.{Pins}
 use Rattle.device.specs.declared.Event.{Event}
 use Rattle.device.specs.declared.Event.the-variants.{Write, Read, Send, Receive, Convert, Open, PowerOn, ConvertSecond, OpenSecond}
 use Rattle.device.specs.Pins.{firstOf}
-use Rattle.device.specs.Bus.{silentOf, takesOf, takingOf, senseOf}
+use Rattle.device.specs.Bus.{takesOf}
 use Rattle.device.specs.Ranges.{secondOf}
 use Rattle.device.specs.Step.{effectOf}
 use Rattle.device_laws.proofs.Bits.{has-or, bit-of}
+use Rattle.device_laws.proofs.Moves.{taken-exactly}
 use Rattle.pair.specs.declared.Bus.{Bus}
 use Rattle.pair.specs.declared.Named.the-variants.{First}
 use Rattle.pair.specs.Bus.{twoOf, pickedOf, amongOf, namesOf, Done, busEffectOf, linesOf, busAnswerOf}
@@ -80,33 +80,25 @@ answer-taken o = first-taken (linesOf (o .bus)) (o .acknowledged) (o .taken) (o 
 
 -- ---- a conversion, of the device that it is of
 
-sense-taken : (d : Device) (local : ℕ) (remote : Reading) (diodeOpen : Bool) → senseOf d local remote diodeOpen .taken ≡ takesOf d
-unfolding senseOf
-sense-taken d local remote diodeOpen = split (takesOf d)
-  where
-    split : (t : Bool) → cond t (takingOf d local remote diodeOpen) (silentOf d) .taken ≡ t
-    split true = refl
-    split false = refl
-
 module _ (p : Bus) where
   first-takes : (e : Event) → secondOf e ≡ false → amongOf p e ≡ First → busEffectOf p e .taken ≡ effectOf (p .first) e .taken
   unfolding busEffectOf namesOf
   first-takes e s n = by-test (twoOf p) (λ two. rw (two, n)) (λ one. rw (one, s))
 
   takes : (second : Bool) → presentOf p second ≡ true → (e : Event) → conversionOf second e ≡ true → busEffectOf p e .taken ≡ takesOf (pickedOf p second)
-  unfolding busEffectOf namesOf amongOf secondOf effectOf
+  unfolding busEffectOf namesOf amongOf secondOf takesOf
   takes second here (Write a w v) c = clash c
   takes second here (Read a r) c = clash c
   takes second here (Send a r) c = clash c
   takes second here (Receive a) c = clash c
   takes true here (Convert local high low) c = clash c
-  takes false here (Convert local high low) c = first-takes (Convert local high low) refl refl ∙ sense-taken (p .first) local _ false
+  takes false here (Convert local high low) c = first-takes (Convert local high low) refl refl ∙ taken-exactly (p .first) (Convert local high low)
   takes true here (Open local) c = clash c
-  takes false here (Open local) c = first-takes (Open local) refl refl ∙ sense-taken (p .first) local _ true
+  takes false here (Open local) c = first-takes (Open local) refl refl ∙ taken-exactly (p .first) (Open local)
   takes second here PowerOn c = clash c
-  takes true here (ConvertSecond local high low) c = rw here (sense-taken (p .second) local _ false)
+  takes true here (ConvertSecond local high low) c = rw here (taken-exactly (p .second) (ConvertSecond local high low))
   takes false here (ConvertSecond local high low) c = clash c
-  takes true here (OpenSecond local) c = rw here (sense-taken (p .second) local _ true)
+  takes true here (OpenSecond local) c = rw here (taken-exactly (p .second) (OpenSecond local))
   takes false here (OpenSecond local) c = clash c
 
 -- the account's test is the device's

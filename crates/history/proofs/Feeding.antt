@@ -1,5 +1,6 @@
 -- `fed-state`: the state that feeding leaves, call by call with whatever buffers, after 7 too, is that of the whole-capture definition for the bytes
 -- consumed so far. `goes-on`: with the bytes of a capture whose code is 0, behind those, a call gives 0 or 7 and nothing else.
+-- `held-to-the-end`: no capture whose code is 0 has a front that is refused.
 -- Assumes nothing.
 use mathlib.Core.Path.{_≡_, sym, ap, subst, _∙_}
 use mathlib.Core.Bool.{true}
@@ -66,7 +67,7 @@ fed-state {bytes} f = sym (stand f .run) ∙ ap (λ (o : Out). o .reader) (whole
 -- ---- an accepted capture's own bytes
 
 -- a code that a state holds is the code of all that comes after it
-held-to-the-end : (xs ys : List ℕ) → (runOf freshOf xs .reader .held ≡ 0 → ⊥) → wholeOf (xs ++ ys) .code ≡ 0 → ⊥
+pub held-to-the-end : (xs ys : List ℕ) → (runOf freshOf xs .reader .held ≡ 0 → ⊥) → wholeOf (xs ++ ys) .code ≡ 0 → ⊥
 held-to-the-end xs ys held zero =
     let s = runOf freshOf xs .reader in
     let code : runOf freshOf (xs ++ ys) .code ≡ s .held =

@@ -3,7 +3,7 @@
 -- not noted.
 -- Assumes nothing.
 use mathlib.Core.Path.{_≡_, refl, sym, ap, subst, _∙_}
-use mathlib.Core.Bool.{Bool, true, false, not, cond, _||_, _&&_, and-true, or-false}
+use mathlib.Core.Bool.{Bool, true, false, not, cond, _||_, _&&_, and-true, or-false, Bool·not-not}
 use mathlib.Core.List.{List, _∷_}
 use Prim.Native.Nat.{ℕ}
 use native.Mathlib.Omega.{arith}
@@ -34,7 +34,7 @@ use Rattle.history.specs.Account.{InForce, Taken, Account, Owner, withou
 use Rattle.history.specs.Account.{sampleIn, notedOf}
 use Rattle.history.specs.Verdict.{Channel, localChannel, remoteChannel, critOf, readAs, liveAt, belowAt, verdictOf}
 use Rattle.history.specs.Latches.{latchAt, critBit, Tells, inForceOf}
-use Rattle.history.proofs.Negation.{double, not-false, not-true}
+use Rattle.history.proofs.Negation.{not-false, not-true}
 use Rattle.history.proofs.WithoutD7.{low-bit, masking, changing, same-reading, same-limits, same-crit, same-hysteresis}
 use Rattle.history.proofs.Verdicts.{latching}
 
@@ -215,7 +215,7 @@ module _ (o : Owner) (number : ℕ) where
 
     -- the account's choice by whose conversion it is
     of-first : {n : Device} {a : Account} → not (not (o .second)) ≡ false → Follows o n a → Follows o n (cond (o .second) account a)
-    of-first {n} {a} c f = subst (λ (t : Bool). Follows o n (cond t account a)) (sym (sym (double (o .second)) ∙ c)) f
+    of-first {n} {a} c f = subst (λ (t : Bool). Follows o n (cond t account a)) (sym (sym (Bool·not-not (o .second)) ∙ c)) f
 
     of-second : {n : Device} {a : Account} → not (o .second) ≡ false → Follows o n a → Follows o n (cond (o .second) a account)
     of-second {n} {a} c f = subst (λ (t : Bool). Follows o n (cond t a account)) (sym (not-false (o .second) c)) f
@@ -248,8 +248,8 @@ module _ (o : Owner) (number : ℕ) where
   unnoted a (Read x r) h = refl
   unnoted a (Send x r) h = refl
   unnoted a (Receive x) h = refl
-  unnoted a (Convert local high low) h = rw (sym (double (o .second)) ∙ sym (or-false _) ∙ h)
-  unnoted a (Open local) h = rw (sym (double (o .second)) ∙ sym (or-false _) ∙ h)
+  unnoted a (Convert local high low) h = rw (sym (Bool·not-not (o .second)) ∙ sym (or-false _) ∙ h)
+  unnoted a (Open local) h = rw (sym (Bool·not-not (o .second)) ∙ sym (or-false _) ∙ h)
   unnoted a PowerOn h = clash h
   unnoted a (ConvertSecond local high low) h = rw (not-true (o .second) (sym (or-false _) ∙ h))
   unnoted a (OpenSecond local) h = rw (not-true (o .second) (sym (or-false _) ∙ h))

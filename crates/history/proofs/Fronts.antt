@@ -28,12 +28,13 @@ use Rattle.capture.specs.Whole.{Whole, Quad, quads, over, quadOf, number, onRec
 use Rattle.capture.specs.Whole.{recordsOf, recordCountOf, secondVariantOf, variantsOf, wholeOf}
 use Rattle.capture_laws.specs.Events.{eventThen, eventsIn, eventsOf, variantsIn, busIn}
 use Rattle.capture_laws.specs.Schedule.{after}
-use Rattle.capture_laws.proofs.Run.{runOf, run-append, run-held}
+use Rattle.capture_laws.proofs.Run.{runOf, run-append}
 use Rattle.capture_laws.proofs.Sections.{whole-run}
 use Rattle.capture_laws.proofs.Cuts.{whole-call}
 use Rattle.capture_laws.proofs.Places.{stands}
 use Rattle.capture_laws.proofs.Fours.{run-even, run-code}
 use Rattle.capture_laws.proofs.Stepping.{step-by-step}
+use Rattle.history.proofs.Feeding.{held-to-the-end}
 use Rattle.history.specs.Latches.{Accepted, Reached, recordCount, headerBytes, front}
 
 -- ---- a complete header
@@ -246,16 +247,14 @@ module _ (xs : List ℕ) (accepted : Accepted xs) where
     cut : runOf freshOf xs ≡ after (runOf freshOf (front xs k)) (runOf (runOf freshOf (front xs k) .reader) (drop (headerBytes xs + k * 4) xs))
     cut = ap (runOf freshOf) (sym (take-append-drop (headerBytes xs + k * 4) xs)) ∙ run-append freshOf (front xs k) (drop (headerBytes xs + k * 4) xs)
 
-    -- a code that it held would be the capture's
     none-held : runOf freshOf (front xs k) .reader .held ≡ 0
     none-held =
         let s = runOf freshOf (front xs k) .reader in
+        let parts : wholeOf (front xs k ++ drop (headerBytes xs + k * 4) xs) .code ≡ 0 =
+        ap (λ (ys : List ℕ). wholeOf ys .code) (take-append-drop (headerBytes xs + k * 4) xs) ∙ accepted .code in
         by-test (eqb (s .held) 0)
         (λ z. eqb-true (s .held) 0 z)
-        (λ n.
-        let held = eqb-false (s .held) 0 n in
-        let code : runOf freshOf xs .code ≡ s .held = ap (λ (o : Out). o .code) cut ∙ ap (λ (o : Out). o .code) (run-held s _ held) in
-        absurd (held (sym code ∙ ap (λ (o : Out). o .code) (whole-run xs) ∙ accepted .code)))
+        (λ n. absurd (held-to-the-end (front xs k) (drop (headerBytes xs + k * 4) xs) (eqb-false (s .held) 0 n) parts))
 
     pub reached : Reached xs k
     reached =

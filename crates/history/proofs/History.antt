@@ -102,7 +102,6 @@ module _ (xs : List ℕ) (accepted : Accepted xs) (second : Bool) (there : onBus
 -- ---- the theorem
 
 -- after k records; `second` false is the first or only device
-
 pub history : (xs : List ℕ) → Accepted xs → (k : ℕ) → k ≤ recordCount xs → (second : Bool) → onBus xs second ≡ true → (ch : Channel)
     → (latchIn (stateAfter xs k) second ch ≡ true) ↔ SetBy ch (accountOf xs second k .taken)
 history xs accepted k few second there ch = by-account (follows xs accepted second there k) ch

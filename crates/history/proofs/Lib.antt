@@ -3,8 +3,8 @@ pub mod WithoutD7
 pub mod Verdicts
 pub mod Follows
 pub mod Rows
-pub mod Fronts
 pub mod Feeding
+pub mod Fronts
 pub mod History
 pub mod Answers
 pub mod Quiet

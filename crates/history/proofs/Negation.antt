@@ -1,12 +1,8 @@
--- `double`, `not-false`, `not-true`: a test and its negation.
+-- `not-false`, `not-true`: a test and its negation.
 -- Assumes nothing.
 use mathlib.Core.Path.{_≡_, refl, sym}
 use mathlib.Core.Bool.{Bool, true, false, not}
 use Rattle.laws.proofs.Choices.{clash}
-
-pub double : (b : Bool) → not (not b) ≡ b
-double true = refl
-double false = refl
 
 pub not-false : (b : Bool) → not b ≡ false → b ≡ true
 not-false true h = refl
