@@ -12,7 +12,8 @@ use Rattle.device.specs.Bus.{poweredOf, zeroDevice}
 use Rattle.device.specs.Ranges.{variantOf}
 use Rattle.record.specs.declared.Record.{Record}
 use Rattle.record.specs.declared.Record.the-variants.{Valid, Refused}
-use Rattle.record.specs.Record.{decodeOf, codeOf}
+use Rattle.record.specs.Record.{codeOf}
+use Rattle.record.specs.Fours.{Quad, quads, over, quadOf}
 use Rattle.pair.specs.declared.Bus.{Bus}
 use Rattle.pair.specs.Bus.{answersOf, countPlace, headerLength}
 use Rattle.capture.specs.declared.Reader.{Reader}
@@ -51,32 +52,6 @@ abbrev pub recording : ℕ → ℕ → Bus → List ℕ → Reader
 recording n k bus l = withCarried (withDone (heading (headerLength bus) n bus) k) (length l) (take 3 (l ++ noBytes))
 
 -- ---- the records
-
--- kind, a, b, c
-pub record Quad : Type 0 where
-  pub kind : ℕ
-  pub a : ℕ
-  pub b : ℕ
-  pub c : ℕ
-
--- the complete records of a byte string, and the bytes over
-abbrev pub quads : List ℕ → List Quad
-quads [] = []
-quads (k ∷ []) = []
-quads (k ∷ a ∷ []) = []
-quads (k ∷ a ∷ b ∷ []) = []
-quads (k ∷ a ∷ b ∷ c ∷ xs) = record { kind = k; a = a; b = b; c = c } ∷ quads xs
-
-abbrev pub over : List ℕ → List ℕ
-over [] = []
-over (k ∷ []) = k ∷ []
-over (k ∷ a ∷ []) = k ∷ a ∷ []
-over (k ∷ a ∷ b ∷ []) = k ∷ a ∷ b ∷ []
-over (k ∷ a ∷ b ∷ c ∷ xs) = over xs
-
--- read under a device count
-abbrev pub quadOf : ℕ → Quad → Record
-quadOf devices q = decodeOf devices (q .kind) (q .a) (q .b) (q .c)
 
 -- an event is stepped; a refused record is told by its code
 abbrev pub onRecord : Record → (Event → Whole) → (ℕ → Whole) → Whole

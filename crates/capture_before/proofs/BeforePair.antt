@@ -21,11 +21,12 @@ use Rattle.record.specs.declared.Record.the-variants.{Valid, Refused}
 use Rattle.record.specs.declared.Refusal.{Refusal}
 use Rattle.record.specs.declared.Refusal.the-variants.{Kind, Operand}
 use Rattle.record.specs.Record.{codeOf, decodeOf}
+use Rattle.record.specs.Fours.{quads, over}
 use Rattle.pair.specs.declared.Bus.{Bus}
 use Rattle.pair.specs.Bus.{countedBus, Answered, Done, busEffectOf, answersOf}
 use Rattle.pair_laws.proofs.OneDevice.{one-effect, one-answer}
 use Rattle.capture.specs.declared.Reader.{Reader}
-use Rattle.capture.specs.Whole.{Whole, thenOf, quads, over, onRecord, recordsOf, recordCountOf, variantsOf, wholeOf}
+use Rattle.capture.specs.Whole.{Whole, thenOf, onRecord, recordsOf, recordCountOf, variantsOf, wholeOf}
 use Rattle.capture_before.specs.AsBefore.{OfThatTime, NotTwo, AsBefore}
 use Rattle.capture_before.specs.BeforePair as before
 

@@ -18,12 +18,13 @@ use Rattle.record.specs.declared.Record.the-variants.{Valid, Refused}
 use Rattle.record.specs.declared.Refusal.the-variants.{Kind, Operand}
 use Rattle.record.specs.Record.{decodeOf, codeOf, knownKind}
 use Rattle.record.proofs.Known.{kind-refused}
+use Rattle.record.specs.Fours.{Quad, quads, over, quadOf}
 use Rattle.capture.specs.declared.Reader.{Reader}
 use Rattle.pair.specs.declared.Bus.{Bus}
 use Rattle.pair.specs.Bus.{answersOf}
 use Rattle.pair.proofs.Kept.{same-count}
 use Rattle.capture.specs.Reader.{Out, holdOf, quietOf, answeredOf, turnOf, feedOf}
-use Rattle.capture.specs.Whole.{Quad, quads, over, quadOf, recording}
+use Rattle.capture.specs.Whole.{recording}
 use Rattle.capture_laws.specs.Codes.{IsValid, AllValid, Judged, Past, Done}
 use Rattle.capture.proofs.Outcomes.{feed-stop, feed-full, feed-on}
 use Rattle.capture_laws.proofs.Sections.{first, second, third, fourth, past, stepped, lasting}

@@ -20,13 +20,14 @@ use Rattle.record.specs.declared.Record.the-variants.{Valid, Refused}
 use Rattle.record.specs.declared.Refusal.{Refusal}
 use Rattle.record.specs.declared.Refusal.the-variants.{Kind, Operand}
 use Rattle.record.specs.Record.{decodeOf, codeOf}
+use Rattle.record.specs.Fours.{Quad, quads, over, quadOf}
 use Rattle.pair.specs.declared.Bus.{Bus}
 use Rattle.pair.specs.Bus.{countPlace, headerLength, answersOf}
 use Rattle.pair.proofs.Kept.{same-count}
 use Rattle.pair.proofs.Heading.{counts}
 use Rattle.capture.specs.declared.Reader.{Reader}
 use Rattle.capture.specs.Reader.{freshOf, withHead, holdOf, betweenOf, headerLengthOf, oneAddress, quietOf, answeredOf, judgedOf, turnOf, Out, stopOf, joinOf, endOf}
-use Rattle.capture.specs.Whole.{Whole, refusesOf, thenOf, heading, recording, Quad, quads, over, quadOf, onRecord, recordsOf}
+use Rattle.capture.specs.Whole.{Whole, refusesOf, thenOf, heading, recording, onRecord, recordsOf}
 use Rattle.capture.specs.Whole.{number, recordCountOf, firstTaken, bothOf, secondVariantOf, noneOf, variantsOf, wholeOf}
 use Rattle.capture.proofs.Turns.{opened-turn, other-count-turn, variant-turn, one-address-turn, other-variant-turn, counted-turn}
 use Rattle.capture.proofs.Turns.{carried-turn, judged-turn, past-turn}

@@ -22,6 +22,7 @@ use Rattle.record.specs.declared.Record.{Record}
 use Rattle.record.specs.declared.Record.the-variants.{Valid, Refused}
 use Rattle.record.specs.Record.{codeOf}
 use Rattle.record.proofs.RoundTrip.{only-those}
+use Rattle.record.specs.Fours.{Quad, quadOf, quads, over, eventThen, eventsIn}
 use Rattle.pair.specs.declared.Bus.{Bus}
 use Rattle.pair.specs.Bus.{zeroBus, twoOf, pickedOf, firstAddress, secondAddress, answersOf}
 use Rattle.pair.proofs.Kept.{same-count}
@@ -31,11 +32,11 @@ use Rattle.pair_laws.specs.Stepping.{Able, Ready, Allowed, repliedIn, Stepped}
 use Rattle.pair_laws.proofs.Stepping.{each-stepped, alone-replies, ready}
 use Rattle.capture.specs.declared.Reader.{Reader}
 use Rattle.capture.specs.Reader.{headerLengthOf, rangesOf}
-use Rattle.capture.specs.Whole.{Whole, Quad, quadOf, quads, over, number, onRecord, thenOf, refusesOf, recording, firstTaken, bothOf, noneOf}
+use Rattle.capture.specs.Whole.{Whole, number, onRecord, thenOf, refusesOf, recording, firstTaken, bothOf, noneOf}
 use Rattle.capture.specs.Whole.{recordsOf, recordCountOf, secondVariantOf, variantsOf, wholeOf}
 use Rattle.capture.proofs.InRange.{ranges}
 use Rattle.capture_laws.specs.Codes.{numberHeader, secondHeader}
-use Rattle.capture_laws.specs.Events.{eventThen, eventsIn, eventsBehind, eventsOf, secondIn, variantsIn, busOf, busIn, answeredBytes, StepByStep}
+use Rattle.capture_laws.specs.Events.{eventsBehind, eventsOf, secondIn, variantsIn, busOf, busIn, answeredBytes, StepByStep}
 
 -- ---- the records
 

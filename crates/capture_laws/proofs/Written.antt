@@ -22,15 +22,16 @@ use Rattle.record.specs.declared.Refusal.the-variants.{Kind, Operand}
 use Rattle.record.specs.Record.{encodeOf, codeOf}
 use Rattle.record.specs.Writer.{countBytesOf, headerOf}
 use Rattle.record.proofs.RoundTrip.{reads-back, only-those}
+use Rattle.record.specs.Fours.{Quad, quadOf, quads, over, eventThen, eventsIn}
 use Rattle.pair.specs.declared.Bus.{Bus}
 use Rattle.pair.specs.Bus.{answersOf}
 use Rattle.pair.proofs.Kept.{same-count}
 use Rattle.pair_laws.specs.Stepping.{Allowed}
 use Rattle.pair.proofs.Heading.{counts}
-use Rattle.capture.specs.Whole.{Whole, Quad, quadOf, onRecord, thenOf, quads, over, number, recordsOf, recordCountOf}
+use Rattle.capture.specs.Whole.{Whole, onRecord, thenOf, number, recordsOf, recordCountOf}
 use Rattle.capture.specs.Whole.{firstTaken, bothOf, secondVariantOf, variantsOf, wholeOf}
 use Rattle.capture_laws.specs.Codes.{numberHeader, secondHeader}
-use Rattle.capture_laws.specs.Events.{eventThen, eventsIn, eventsBehind, eventsOf, secondIn, variantsIn, busOf, busIn}
+use Rattle.capture_laws.specs.Events.{eventsBehind, eventsOf, secondIn, variantsIn, busOf, busIn}
 use Rattle.capture_laws.specs.Schedule.{Bytes}
 use Rattle.capture_laws.specs.Written.{recordsBytes, captureOf, Sound, ReadBack, WrittenBack}
 use Rattle.capture_laws.proofs.Stepping.{stepped, refused, counted, uncounted, step-by-step}

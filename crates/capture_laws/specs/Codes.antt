@@ -13,10 +13,10 @@ use Rattle.device.specs.Ranges.{variantOf}
 use Rattle.record.specs.declared.Record.the-variants.{Valid, Refused}
 use Rattle.record.specs.declared.Refusal.the-variants.{Operand}
 use Rattle.record.specs.Record.{knownKind}
+use Rattle.record.specs.Fours.{Quad, quads, quadOf}
 use Rattle.pair.specs.Bus.{countPlace}
 use Rattle.capture.specs.declared.Reader.{Reader}
 use Rattle.capture.specs.Reader.{headerLengthOf, rangesOf}
-use Rattle.capture.specs.Whole.{Quad, quads, quadOf}
 
 -- ---- the header that is still ahead
 

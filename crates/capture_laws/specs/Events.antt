@@ -10,28 +10,17 @@ use Rattle.registers.specs.Page.{addressOf}
 use Rattle.device.specs.declared.Event.{Event}
 use Rattle.device.specs.Ranges.{variantOf}
 use Rattle.device.specs.Run.{repliesOf}
-use Rattle.record.specs.declared.Record.{Record}
-use Rattle.record.specs.declared.Record.the-variants.{Valid, Refused}
+use Rattle.record.specs.Fours.{quads, eventsIn}
 use Rattle.pair.specs.declared.Bus.{Bus}
 use Rattle.pair.specs.Bus.{zeroBus, twoOf, pickedOf}
 use Rattle.pair_laws.specs.Devices.{presentOf}
 use Rattle.pair_laws.specs.Seen.{Answer, busAnswers, busAfter}
 use Rattle.pair_laws.specs.Stepping.{repliedIn, Stepped}
-use Rattle.capture.specs.Whole.{Quad, quads, quadOf, firstTaken, bothOf, noneOf, wholeOf}
+use Rattle.capture.specs.Whole.{firstTaken, bothOf, noneOf, wholeOf}
 use Rattle.capture_laws.specs.Codes.{Header, countHeader}
 use Rattle.capture_laws.specs.Codes.Header.{badCount, badVariant, badAddress, unfinished, complete}
 
 -- ---- the events
-
--- of a record and of those behind it: none from the first refused one on
-abbrev pub eventThen : Record → List Event → List Event
-eventThen (Valid e) es = e ∷ es
-eventThen (Refused why) es = []
-
--- of records in order, under a device count, up to the first refused one
-abbrev pub eventsIn : ℕ → List Quad → List Event
-eventsIn devices [] = []
-eventsIn devices (q ∷ qs) = eventThen (quadOf devices q) (eventsIn devices qs)
 
 -- behind a header: of the complete records, those that are counted
 abbrev pub eventsBehind : Header → List Event

@@ -21,12 +21,13 @@ use Rattle.record.specs.declared.Record.{Record}
 use Rattle.record.specs.declared.Record.the-variants.{Valid, Refused}
 use Rattle.record.specs.declared.Refusal.the-variants.{Kind, Operand}
 use Rattle.record.specs.Record.{codeOf}
+use Rattle.record.specs.Fours.{Quad, quads, over, quadOf, eventThen, eventsIn}
 use Rattle.pair.specs.declared.Bus.{Bus}
 use Rattle.pair.specs.Bus.{answersOf}
 use Rattle.capture.specs.Reader.{Out, freshOf}
-use Rattle.capture.specs.Whole.{Whole, Quad, quads, over, quadOf, number, onRecord, thenOf, refusesOf, recording}
+use Rattle.capture.specs.Whole.{Whole, number, onRecord, thenOf, refusesOf, recording}
 use Rattle.capture.specs.Whole.{recordsOf, recordCountOf, secondVariantOf, variantsOf, wholeOf}
-use Rattle.capture_laws.specs.Events.{eventThen, eventsIn, eventsOf, variantsIn, busIn}
+use Rattle.capture_laws.specs.Events.{eventsOf, variantsIn, busIn}
 use Rattle.capture_laws.specs.Schedule.{after}
 use Rattle.capture_laws.proofs.Run.{runOf, run-append}
 use Rattle.capture_laws.proofs.Sections.{whole-run}

@@ -1,4 +1,5 @@
 pub mod Record
+pub mod Fours
 pub mod Writer
 pub mod Opened
 pub mod Codes
