@@ -36,7 +36,7 @@ pub fn reading(s: [u8; 14], high: u8, low: u8) -> Reading
     temperature::held_sum(high, low, s[registers::OFFSET], s[registers::OFFSET_PART])
 }
 
-fn local_limits(s: [u8; 14]) -> Limits
+pub fn local_limits(s: [u8; 14]) -> Limits
     ensures { λ r. ⌜ r ≡ localLimitsOf s ⌝ }
 {
     Limits {
@@ -46,7 +46,7 @@ fn local_limits(s: [u8; 14]) -> Limits
     }
 }
 
-fn remote_limits(s: [u8; 14]) -> Limits
+pub fn remote_limits(s: [u8; 14]) -> Limits
     ensures { λ r. ⌜ r ≡ remoteLimitsOf s ⌝ }
 {
     Limits {
@@ -57,7 +57,7 @@ fn remote_limits(s: [u8; 14]) -> Limits
 }
 
 // P3, for either channel.
-fn compare(t: i16, limits: Limits) -> Out
+pub fn compare(t: i16, limits: Limits) -> Out
     ensures { λ r. ⌜ r ≡ outOf t limits ⌝ }
 {
     Out {
@@ -67,14 +67,14 @@ fn compare(t: i16, limits: Limits) -> Out
     }
 }
 
-fn any(o: Out) -> bool
+pub fn any(o: Out) -> bool
     ensures { λ r. ⌜ r ≡ anyOf o ⌝ }
 {
     o.high | o.low | o.crit
 }
 
 // P4: the fault count after a conversion.
-fn count(faults: u8, out: bool) -> u8
+pub fn count(faults: u8, out: bool) -> u8
     ensures { λ r. ⌜ r ≡ countOf faults out ⌝ }
 {
     if out {
@@ -85,13 +85,13 @@ fn count(faults: u8, out: bool) -> u8
 }
 
 // P4: the fault queue holds the remote bits back.
-fn queued(configuration: u8, count: u8) -> bool
+pub fn queued(configuration: u8, count: u8) -> bool
     ensures { λ r. ⌜ r ≡ queuedOf configuration count ⌝ }
 {
     (configuration & bits::FAULT_QUEUE != 0) & (count < 3)
 }
 
-fn shown(queued: bool, o: Out) -> Out
+pub fn shown(queued: bool, o: Out) -> Out
     ensures { λ r. ⌜ r ≡ shownOf queued o ⌝ }
 {
     Out {
@@ -122,7 +122,7 @@ fn live(l: Out, r: Out, broken: bool) -> u8
 }
 
 // P8, for either channel.
-fn latch(critical: bool, cleared: bool, old: bool) -> bool
+pub fn latch(critical: bool, cleared: bool, old: bool) -> bool
     ensures { λ r. ⌜ r ≡ latchOf critical cleared old ⌝ }
 {
     if critical {

@@ -20,6 +20,7 @@ use Rattle.registers.specs.Page.{writableOf, readableOf, knownOf, oneShot, sett
 use Rattle.conversion.specs.declared.Sensed.{Sensed}
 use Rattle.conversion.specs.Conversion.{readingOf, localLimitsOf, remoteLimitsOf, outOf, queuedOf, shownOf, sensedOf, faultsOf}
 use Rattle.conversion.specs.Conversion.{latchOf, localOutOf, remoteShownOf}
+use Rattle.conversion.specs.Channels.{Channel, localChannel, remoteChannel, latchAt}
 use Rattle.device.specs.declared.Device.{Device}
 use Rattle.device.specs.declared.Outcome.{Outcome}
 use Rattle.device.specs.declared.Event.{Event}
@@ -32,8 +33,8 @@ use Rattle.device_laws.proofs.AfterConversion.{after-conversion}
 use Rattle.pair_laws.specs.Devices.{conversionOf, isAlertResponse}
 use Rattle.history.specs.Account.{InForce, Taken, Account, Owner, withoutD7, startOf, storeIn, askIn, writeIn, isTaken, takenAs, withTaken, convertIn}
 use Rattle.history.specs.Account.{sampleIn, notedOf}
-use Rattle.history.specs.Verdict.{Channel, localChannel, remoteChannel, critOf, readAs, liveAt, belowAt, verdictOf}
-use Rattle.history.specs.Latches.{latchAt, critBit, Tells, inForceOf}
+use Rattle.history.specs.Verdict.{critOf, readAs, liveAt, belowAt, verdictOf}
+use Rattle.history.specs.Latches.{critBit, Tells, inForceOf}
 use Rattle.history.proofs.Negation.{not-false, not-true}
 use Rattle.history.proofs.WithoutD7.{low-bit, masking, changing, same-reading, same-limits, same-crit, same-hysteresis}
 use Rattle.history.proofs.Verdicts.{latching}

@@ -16,6 +16,7 @@ use lib.Dec.{eqb}
 use lib.ListN.{length, getD, take}
 use lib.Seq.{take-append-seam}
 use Rattle.laws.proofs.Choices.{clash, by-test}
+use Rattle.conversion.specs.Channels.{Channel, latchAt}
 use Rattle.device.specs.declared.Device.{Device}
 use Rattle.device.specs.declared.Event.{Event}
 use Rattle.pair.specs.declared.Bus.{Bus}
@@ -25,8 +26,8 @@ use Rattle.capture.specs.Whole.{wholeOf}
 use Rattle.capture_laws.specs.Events.{eventsOf, busIn}
 use Rattle.capture_laws.proofs.Stepping.{step-by-step}
 use Rattle.history.specs.Account.{Account, Owner, startOf, accountFrom, ownerIn, accountOf, onBus}
-use Rattle.history.specs.Verdict.{Channel, SetBy}
-use Rattle.history.specs.Latches.{Accepted, recordCount, headerBytes, stateAfter, latchAt, Tells, inForceOf, deviceIn, sensedIn, latchIn, FeedsTo}
+use Rattle.history.specs.Verdict.{SetBy}
+use Rattle.history.specs.Latches.{Accepted, recordCount, headerBytes, stateAfter, Tells, inForceOf, deviceIn, sensedIn, latchIn, FeedsTo}
 use Rattle.history.proofs.Verdicts.{verdict}
 use Rattle.history.proofs.Follows.{Follows}
 use Rattle.history.proofs.Rows.{of-bytes}

@@ -11,13 +11,14 @@ use native.Mathlib.Omega.{arith}
 use Rattle.laws.proofs.Choices.{by-test, and-left, and-right, or-left, or-right}
 use Rattle.registers.specs.Bits.{has}
 use Rattle.registers.specs.Page.{settingOf}
+use Rattle.conversion.specs.Channels.{Channel, localChannel, remoteChannel}
 use Rattle.device.specs.declared.Device.{Device}
 use Rattle.device.specs.declared.Event.{Event}
 use Rattle.device.specs.Pins.{configurationOf, tcritOf, pinsOf}
 use Rattle.pair.specs.declared.Bus.{Bus}
 use Rattle.pair.specs.Bus.{busEffectOf, linesOf}
 use Rattle.history.specs.Account.{InForce, Account, Owner, accountOf, onBus}
-use Rattle.history.specs.Verdict.{Channel, localChannel, remoteChannel, maskOf, verdictOf, maskedIn, pullsIn, pullsBy, pulledAfter, PulledBy}
+use Rattle.history.specs.Verdict.{maskOf, verdictOf, maskedIn, pullsIn, pullsBy, pulledAfter, PulledBy}
 use Rattle.history.specs.Verdict.{Next, readsOrSends}
 use Rattle.history.specs.Latches.{Accepted, recordCount, stateAfter, D1At}
 use Rattle.history.proofs.Negation.{not-true}

@@ -13,12 +13,13 @@ use lib.Dec.{eqb}
 use lib.ListN.{length}
 use Rattle.laws.proofs.Choices.{cond-ind, clash}
 use Rattle.registers.specs.Page.{writableOf, oneShot, addressOf}
+use Rattle.conversion.specs.Channels.{Channel}
 use Rattle.device.specs.declared.Event.{Event}
 use Rattle.device.specs.declared.Event.the-variants.{Write, Read, Send, Receive, Convert, Open, PowerOn, ConvertSecond, OpenSecond}
 use Rattle.pair_laws.specs.Devices.{conversionOf}
 use Rattle.capture_laws.specs.Events.{eventsOf}
 use Rattle.history.specs.Account.{Account, Owner, startOf, storeIn, askIn, writeIn, isTaken, convertIn, notedOf, accountFrom, ownerIn, accountOf, onBus}
-use Rattle.history.specs.Verdict.{Channel, verdictOf, verdictAfter, mayMove, readsOrSends, Next}
+use Rattle.history.specs.Verdict.{verdictOf, verdictAfter, mayMove, readsOrSends, Next}
 use Rattle.history.specs.Latches.{Accepted, recordCount, stateAfter, latchIn}
 use Rattle.history.proofs.Rows.{next}
 use Rattle.history.proofs.History.{follows}

@@ -9,9 +9,10 @@ use Prim.Native.Nat.{ℕ}
 use native.Mathlib.Omega.{arith}
 use lib.IntN.{pos}
 use Rattle.laws.proofs.Choices.{clash}
+use Rattle.conversion.specs.Channels.{remoteChannel}
 use Rattle.capture.specs.Opened.{captureOpened}
 use Rattle.history.specs.Account.{Taken, accountOf}
-use Rattle.history.specs.Verdict.{remoteChannel, SetBy}
+use Rattle.history.specs.Verdict.{SetBy}
 use Rattle.history.specs.Latches.{Accepted, stateAfter, D1At, latchIn}
 use Rattle.history.specs.Opened.{historyOpened}
 use Rattle.history.specs.Examples.{oneOf, listing}

@@ -7,8 +7,9 @@ use mathlib.Core.Bool.{Bool, true, false, not, _||_, _&&_}
 use mathlib.Core.List.{List, [], _∷_, _++_}
 use Rattle.laws.proofs.Choices.{clash}
 use Rattle.conversion.specs.Conversion.{latchOf}
+use Rattle.conversion.specs.Channels.{Channel}
 use Rattle.history.specs.Account.{Taken}
-use Rattle.history.specs.Verdict.{Channel, liveAt, belowAt, NoneBelow, SetBy, verdictOf}
+use Rattle.history.specs.Verdict.{liveAt, belowAt, NoneBelow, SetBy, verdictOf}
 
 module _ (ch : Channel) where
   -- one conversion more, which did not read below

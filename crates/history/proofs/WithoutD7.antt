@@ -16,8 +16,9 @@ use Rattle.registers.specs.declared.Position.the-variants.{At, Nowhere}
 use Rattle.registers.specs.Bits.{has, alertMask}
 use Rattle.registers.specs.Page.{readPositionOf, onPosition, settingOf, changedOf}
 use Rattle.conversion.specs.Conversion.{readingOf, remoteLimitsOf}
+use Rattle.conversion.specs.Channels.{Channel, localChannel, remoteChannel}
 use Rattle.history.specs.Account.{allButD7, withoutD7}
-use Rattle.history.specs.Verdict.{Channel, localChannel, remoteChannel, critOf}
+use Rattle.history.specs.Verdict.{critOf}
 
 -- ---- one byte
 

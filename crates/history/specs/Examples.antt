@@ -9,12 +9,13 @@ use mathlib.Core.List.{List, [], _∷_, map}
 use lib.IntN.{ℤ, pos}
 use lib.ListN.{length}
 use Rattle.registers.specs.Page.{settingOf}
+use Rattle.conversion.specs.Channels.{Channel, localChannel, remoteChannel}
 use Rattle.device.specs.declared.Event.{Event}
 use Rattle.device.specs.declared.Event.the-variants.{Write, Read, Send, Receive, Convert, Open, PowerOn, ConvertSecond, OpenSecond}
 use Rattle.capture.specs.Whole.{wholeOf}
 use Rattle.capture.specs.Opened.{captureOpened}
 use Rattle.history.specs.Account.{Taken, accountOf}
-use Rattle.history.specs.Verdict.{Channel, localChannel, remoteChannel, verdictAfter, pulledAfter, mayMove, readsOrSends}
+use Rattle.history.specs.Verdict.{verdictAfter, pulledAfter, mayMove, readsOrSends}
 use Rattle.history.specs.Opened.{historyOpened}
 
 -- ---- captures

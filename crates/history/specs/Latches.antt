@@ -9,6 +9,7 @@ use lib.ListN.{getD, take, drop}
 use Rattle.registers.specs.Bits.{has, LCRIT, RCRIT}
 use Rattle.conversion.specs.declared.Sensed.{Sensed}
 use Rattle.conversion.specs.Conversion.{localOf}
+use Rattle.conversion.specs.Channels.{Channel, localChannel, remoteChannel, latchAt}
 use Rattle.device.specs.declared.Device.{Device}
 use Rattle.device.specs.declared.Event.{Event}
 use Rattle.pair.specs.Bus.{pickedOf}
@@ -20,7 +21,7 @@ use Rattle.capture.specs.Whole.{number, wholeOf}
 use Rattle.capture_laws.specs.Events.{eventsOf}
 use Rattle.capture_laws.specs.Schedule.{Bytes}
 use Rattle.history.specs.Account.{InForce, Taken, withoutD7, isTaken, accountOf}
-use Rattle.history.specs.Verdict.{Channel, localChannel, remoteChannel, verdictOf, latestLive}
+use Rattle.history.specs.Verdict.{verdictOf, latestLive}
 
 -- code 0 and finishing code 0
 pub record Accepted (capture : List ℕ) : Type 0 where
@@ -89,10 +90,6 @@ EachListed capture second [] = Unit {0}
 EachListed capture second (t ∷ ts) = ListedWith capture second t × EachListed capture second ts
 
 -- ---- what a device has sensed, beside its account
-
-abbrev pub latchAt : Channel → Sensed → Bool
-latchAt localChannel n = n .llatch
-latchAt remoteChannel n = n .rlatch
 
 -- D0 and D1 of status and of the live byte
 abbrev pub critBit : Channel → ℕ

@@ -11,6 +11,7 @@ use Rattle.temperature.specs.Temperature.{eighthsOf, aboveOf, clearedOf}
 use Rattle.registers.specs.Bits.{has, localMask, remoteMask}
 use Rattle.registers.specs.Page.{settingOf}
 use Rattle.conversion.specs.Conversion.{queuedOf}
+use Rattle.conversion.specs.Channels.{Channel, localChannel, remoteChannel}
 use Rattle.device.specs.declared.Event.{Event}
 use Rattle.device.specs.declared.Event.the-variants.{Write, Read, Send, Receive, Convert, Open, PowerOn, ConvertSecond, OpenSecond}
 use Rattle.pair_laws.specs.Devices.{conversionOf, isPowerOn}
@@ -18,10 +19,6 @@ use Rattle.capture_laws.specs.Events.{eventsOf}
 use Rattle.history.specs.Account.{Taken, Account, accountOf, onBus}
 
 -- ---- the two channels
-
-pub data Channel : Type 0 where
-  localChannel : Channel
-  remoteChannel : Channel
 
 -- T_CRIT: 20 local, 19 remote, in degrees
 abbrev pub critOf : Channel → List ℕ → ℕ
