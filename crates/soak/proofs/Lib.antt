@@ -1,0 +1,3 @@
+pub mod Runs
+pub mod Tables
+pub mod Loop

@@ -1,0 +1,4 @@
+pub mod Soak
+pub mod Ends
+pub mod Opened
+pub mod Examples

@@ -1,0 +1,86 @@
+-- Request f: the words in which its sentences are stated. A stretch's records, those read, and which code is given when.
+-- Assumes nothing.
+use Prim.Native.Nat.{ℕ, suc, _%_}
+use mathlib.Core.Path.{_≡_}
+use mathlib.Core.Bool.{true, false, _&&_}
+use mathlib.Core.List.{List, [], _∷_, reverse}
+use lib.ListN.{length, take, drop}
+use Rattle.conversion.specs.Channels.{Channel}
+use Rattle.device.specs.declared.Device.{Device}
+use Rattle.device.specs.declared.Event.{Event}
+use Rattle.device.specs.Bus.{standbyOf}
+use Rattle.device.specs.Ranges.{variantOf, rangedOf}
+use Rattle.record.specs.declared.Record.the-variants.{Refused}
+use Rattle.record.specs.declared.Refusal.{Refusal}
+use Rattle.record.specs.declared.Refusal.the-variants.{Kind, Operand}
+use Rattle.record.specs.Record.{codeOf}
+use Rattle.record.specs.Fours.{Quad, quads, eventsIn}
+use Rattle.soak.specs.Soak.{Running, metOf, latestFirst, Decided, soakOf}
+
+-- ---- a stretch
+
+-- its length is a multiple of four
+abbrev pub Whole : List ℕ → Type 0
+Whole records = length records % 4 ≡ 0
+
+-- each record is a valid 05 or 06
+abbrev pub AllConversions : List Quad → Type 0
+AllConversions [] = Unit {0}
+AllConversions (q ∷ qs) = (codeOf (metOf q) ≡ 0) × AllConversions qs
+
+-- the events of the whole stretch, in order
+abbrev pub eventsOf : List ℕ → List Event
+eventsOf records = eventsIn 1 (quads records)
+
+-- the events of its latest j records, in order
+abbrev pub latest : ℕ → List ℕ → List Event
+latest j records = eventsIn 1 (reverse (take j (latestFirst records)))
+
+-- both channels are decided by them
+pub record BothDecided (d : Device) (read : List Event) : Type 0 where
+  pub each : (ch : Channel) → Decided ch d read
+
+-- ---- which code is given, and exactly when
+
+-- the reading meets this record, behind which so many were read: those are valid 05s and 06s, and do not decide both channels
+pub record Meets (d : Device) (records : List ℕ) (q : Quad) : Type 0 where
+  pub later : ℕ
+  pub before : List Quad
+  pub there : drop later (latestFirst records) ≡ q ∷ before
+  pub conversions : AllConversions (take later (latestFirst records))
+  pub undecided : BothDecided d (latest later records) → ⊥
+
+-- the reading ends at a record that it meets and refuses, which is counted as read
+pub record RefusedAt (d : Device) (records : List ℕ) : Type 0 where
+  pub met : Quad
+  pub meets : Meets d records met
+  pub why : Refusal
+  pub refusal : metOf met ≡ Refused why
+  pub code : soakOf d records .code ≡ codeOf (Refused why)
+  pub read : soakOf d records .read ≡ suc (meets .later)
+
+-- in its ranges, in run mode, of whole records: no 8, 10 or 4 for the length
+pub record Judged (d : Device) (records : List ℕ) : Type 0 where
+  pub running : Running d
+  pub whole : Whole records
+
+pub data Gives (d : Device) (records : List ℕ) : ℕ → Type 0 where
+  -- 8: the state handed in is out of its ranges, or has no variant
+  state : (variantOf (d .variant) && rangedOf d) ≡ false → Gives d records 8
+  -- 10: it is in standby
+  asleep : (variantOf (d .variant) && rangedOf d) ≡ true → standbyOf (d .settings) ≡ true → Gives d records 10
+  -- 4: the length is no multiple of four
+  uneven : Running d → (Whole records → ⊥) → Gives d records 4
+  -- 3: the first record met that is no valid 05 or 06 is of another kind
+  kind : Judged d records → (q : Quad) → Meets d records q → metOf q ≡ Refused Kind → Gives d records 3
+  -- 4: it is a 05 or 06 that breaks the table
+  operand : Judged d records → (q : Quad) → Meets d records q → metOf q ≡ Refused Operand → Gives d records 4
+  -- 0: none of the others applies
+  answered : Judged d records → ((q : Quad) → Meets d records q → codeOf (metOf q) ≡ 0) → Gives d records 0
+
+-- ---- what is not read
+
+-- reading a stretch that ends so stops in it, whatever stands before: a record of it is refused, or both channels are decided by its records
+pub data Stops (d : Device) (tail : List ℕ) : Type 0 where
+  refuses : (soakOf d tail .code ≡ 0 → ⊥) → Stops d tail
+  decides : AllConversions (quads tail) → BothDecided d (eventsOf tail) → Stops d tail
