@@ -15,14 +15,17 @@
  *   G  first, second, count 4, room 2   write header of two variants: code, the room
  *   B  device count, four bytes         decode: code, kind, three operands
  *   C  length 4, room 4, bytes          run: result 8, the room
+ *   K  length 4, bytes                  soak of the device: code, pulled (0 or 1), read 8
  *
  * A dump has the fields in the order of second.h: a device's is 27 bytes, and a
  * reader's 69, of which the last 55 are its bus: the device count and the dumps of
  * both devices, the second's there with one device too.  A bool is 0 or 1, and loaded
  * as true if not 0.  The four bytes of S, W and B are a record's, and may be any bytes,
- * as may the device count of B.  Status 1 with a message on an unknown command, a
- * capture or room above 1,000,000 in C, or a stream cut inside a call. */
+ * as may the device count of B.  The bytes of K are records, any bytes too; it does not
+ * change the device.  Status 1 with a message on an unknown command, a capture or room
+ * above 1,000,000 in C, a stretch above 1,000,000 in K, or a stream cut inside a call. */
 #include "second.h"
+#include "soak.h"
 
 #include <stdio.h>
 #include <stdlib.h>
@@ -32,6 +35,7 @@ enum {
     DEVICE_DUMP = 27,
     READER_DUMP = 14 + 1 + 2 * DEVICE_DUMP,
     CAPTURE_MOST = 1000000,
+    STRETCH_MOST = 1000000,
     FILL = 0xA5
 };
 
@@ -339,30 +343,60 @@ static void call_run(void)
     free(input);
 }
 
-static void answer(second_reader *reader, second_device *device)
+static void call_soak(const second_device *device)
+{
+    uint64_t at = offset;
+    uint32_t length = get_number(4);
+    if (length > STRETCH_MOST)
+        refuse("stretch length above 1000000,", length, at);
+    uint8_t *records = lend(length);
+    get(records, length);
+    second_soaked soaked = second_soak(*device, records, length);
+    put_byte('K');
+    put_byte(soaked.code);
+    put_byte(soaked.pulled);
+    put_number(soaked.read, 8);
+    free(records);
+}
+
+/* A call on the held reader or device; false if the command is none. */
+static bool answer_held(second_reader *reader, second_device *device)
 {
     switch (command) {
     case 'N':
         call_fresh(reader);
-        break;
+        return true;
     case 'R':
         call_set_reader(reader);
-        break;
+        return true;
     case 'F':
         call_feed(reader);
-        break;
+        return true;
     case 'E':
         call_finish(reader);
-        break;
+        return true;
     case 'D':
         call_set_device(device);
-        break;
+        return true;
     case 'P':
         call_power_on(device);
-        break;
+        return true;
     case 'S':
         call_step(device);
-        break;
+        return true;
+    case 'K':
+        call_soak(device);
+        return true;
+    default:
+        return false;
+    }
+}
+
+static void answer(second_reader *reader, second_device *device)
+{
+    if (answer_held(reader, device))
+        return;
+    switch (command) {
     case 'W':
         call_write_event();
         break;

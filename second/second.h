@@ -1,7 +1,7 @@
 /* Second implementation of document 01 (01-scope.md) and of requests a, b and c of
  * document 02 (02-change-requests.md), written from the sources that NOTES.md
- * names alone.  The core: no allocation, no changing globals, every function
- * total. */
+ * names alone; request e is in account.h, f in soak.h.  The core: no allocation, no
+ * changing globals, every function total. */
 #ifndef SECOND_H
 #define SECOND_H
 
@@ -9,7 +9,7 @@
 #include <stddef.h>
 #include <stdint.h>
 
-/* Codes, "Codes of the reader" and request c. */
+/* Codes, "Codes of the reader" and requests c and f; soak.h has what 3, 4 and 8 are there. */
 enum {
     SECOND_OK = 0,
     SECOND_DEVICE_COUNT = 1, /* device count is not 1 or 2 */
@@ -20,7 +20,8 @@ enum {
     SECOND_UNFINISHED = 6,   /* asked to finish before the counted end */
     SECOND_ROOM = 7,         /* too little room */
     SECOND_STATE = 8,        /* the state handed in is out of its ranges */
-    SECOND_ADDRESS = 9       /* request c: both devices have one address */
+    SECOND_ADDRESS = 9,      /* request c: both devices have one address */
+    SECOND_STANDBY = 10      /* request f, of the soak alone: the device is in standby */
 };
 
 /* Kinds of event, "The capture" and request c. */

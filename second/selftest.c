@@ -1,9 +1,11 @@
-/* Hand-made scripts from the rulings of document 01 and from requests a, b, c and e of
- * document 02, every sum of sample and offset, every header, ranges, and the cut tests.
+/* Hand-made scripts from the rulings of document 01 and from requests a, b, c, e and f of
+ * document 02, every sum of sample and offset, every header, ranges, the cut tests, and
+ * stretches for the soak.
  *   gcc -std=c11 -Wall -Wextra -Werror -pedantic -g -fsanitize=address,undefined \
- *       second.c account.c selftest.c -o selftest && ./selftest */
+ *       second.c account.c soak.c selftest.c -o selftest && ./selftest */
 #include "account.h"
 #include "second.h"
+#include "soak.h"
 
 #include <stdio.h>
 #include <string.h>
@@ -2380,6 +2382,672 @@ static void account_captures(void)
     CHECK(set > 10000);
 }
 
+/* ---- Request f: the soak ------------------------------------------------- */
+
+/* Under the settings of soak_start: local T_CRIT 85, remote 110, hysteresis 10, remote limits
+ * 105 and 0.  Local readings, by what they do to the latch: */
+enum { SETS = 86, HOLDS = 80, CLEARS = 0 };
+/* Remote readings, each with a local one: */
+#define CRIT(l) { 5, l, 111, 0 }  /* above T_CRIT, hence a fault */
+#define WARM(l) { 5, l, 107, 0 }  /* between T_CRIT and 100: holds; above 105: a fault */
+#define CALM(l) { 5, l, 102, 0 }  /* holds, no fault */
+#define COOL(l) { 5, l, 50, 0 }   /* below 100, no fault */
+#define COLD(l) { 5, l, 0xFF, 0 } /* below 100; below 0: a fault */
+/* A record that gets 3 if it is read. */
+#define UNREAD { 7, 0, 0, 0 }
+
+enum { SOAK_MOST = 48 }; /* records of a random stretch */
+
+static second_device soak_start(uint8_t configuration, uint8_t faults, bool local, bool remote)
+{
+    second_device device;
+    second_power_on(&device, 1);
+    device.settings[0] = configuration;
+    device.settings[4] = 105; /* remote high limit */
+    device.faults = faults;
+    device.local_latch = local;
+    device.remote_latch = remote;
+    return device;
+}
+
+/* The same with one setting more, by its place in rising order of write address. */
+static second_device soak_set(second_device device, size_t place, uint8_t value)
+{
+    device.settings[place] = value;
+    return device;
+}
+
+/* f: "3 for another kind, else 4". */
+static uint8_t soak_code(const uint8_t *record)
+{
+    if (record[0] == 5)
+        return record[3] % 32 == 0 ? 0 : 4;
+    if (record[0] == 6)
+        return record[2] == 0 && record[3] == 0 ? 0 : 4;
+    return 3;
+}
+
+static second_device run_records(second_device device, const uint8_t *records, size_t count)
+{
+    for (size_t i = 0; i < count; i++) {
+        const uint8_t *record = records + 4 * i;
+        second_event event = { record[0], record[1], record[2], record[3] };
+        CHECK(second_step(&device, event).code == 0);
+    }
+    return device;
+}
+
+/* f: "A channel is decided when the records read give the same latch for every earlier latch
+ * and fault count": by running them forwards from each of the eight. */
+static bool decided_by(second_device device, const uint8_t *records, size_t count, bool remote)
+{
+    int set = 0;
+    for (unsigned earlier = 0; earlier < 8; earlier++) {
+        bool *latch = remote ? &device.remote_latch : &device.local_latch;
+        *latch = earlier % 2 != 0;
+        device.faults = (uint8_t)(earlier / 2);
+        second_device after = run_records(device, records, count);
+        set += remote ? after.remote_latch : after.local_latch;
+    }
+    return set == 0 || set == 8;
+}
+
+/* The answer by trial of each number of records from the end, nothing kept between trials. */
+static second_soaked soak_by_trial(second_device device, const uint8_t *records, size_t count)
+{
+    second_soaked want = { 0, false, 0 };
+    const uint8_t *from = records;
+    while (want.read < count) {
+        want.read++;
+        from = records + 4 * (count - want.read);
+        want.code = soak_code(from);
+        if (want.code != 0)
+            return want;
+        if (decided_by(device, from, want.read, false) && decided_by(device, from, want.read, true))
+            break;
+    }
+    want.pulled = (pins_of(run_records(device, from, want.read)) & 2) != 0;
+    return want;
+}
+
+static bool same_soaked(second_soaked one, second_soaked two)
+{
+    return one.code == two.code && one.pulled == two.pulled && one.read == two.read;
+}
+
+static void expect_soaked(const char *name, second_device device, const uint8_t *records,
+                          size_t length, second_soaked want)
+{
+    second_device before = device;
+    second_soaked got = second_soak(device, records, length);
+    CHECK(same_device(&device, &before));
+    if (same_soaked(got, want))
+        return;
+    printf("wrong: soak, %s: %u %d %llu, not %u %d %llu\n", name, got.code, got.pulled,
+           (unsigned long long)got.read, want.code, want.pulled, (unsigned long long)want.read);
+    wrong++;
+}
+
+/* A stretch with its answer; the trial is held to the same one. */
+static void run_soak(const char *name, second_device device, const uint8_t *records,
+                     size_t count, second_soaked want)
+{
+    expect_soaked(name, device, records, 4 * count, want);
+    check(same_soaked(soak_by_trial(device, records, count), want), name, __LINE__);
+}
+
+/* A stretch that decides both channels: the same answer from every latch and fault count. */
+static void run_decided(const char *name, second_device device, const uint8_t *records,
+                        size_t count, second_soaked want)
+{
+    for (unsigned start = 0; start < 16; start++) {
+        device.local_latch = start % 2 != 0;
+        device.remote_latch = start / 2 % 2 != 0;
+        device.faults = (uint8_t)(start / 4);
+        run_soak(name, device, records, count, want);
+    }
+}
+
+/* SOAK: the records of a stretch in their order, from a given device.  DECIDED: behind a
+ * record that must not be read, so that the reading stops where it should, and from every
+ * latch and count.  REFUSED: with its code. */
+#define STRETCH(run, name, device, code, pulled, read, ...)                           \
+    do {                                                                              \
+        static const uint8_t records_[][4] = { __VA_ARGS__ };                         \
+        run(name, device, records_[0], sizeof records_ / sizeof *records_,            \
+            (second_soaked){ code, pulled, read });                                   \
+    } while (0)
+#define SOAK(name, device, pulled, read, ...)                                         \
+    STRETCH(run_soak, name, device, 0, pulled, read, __VA_ARGS__)
+#define DECIDED(name, device, pulled, read, ...)                                      \
+    STRETCH(run_decided, name, device, 0, pulled, read, UNREAD, __VA_ARGS__)
+#define REFUSED(name, device, code, read, ...)                                        \
+    STRETCH(run_decided, name, device, code, false, read, __VA_ARGS__)
+
+/* Both channels have to be decided; what is not is the given state's. */
+static void soak_channels(void)
+{
+    second_device off = soak_start(0, 0, false, false);
+    DECIDED("local sets", off, true, 1, COOL(SETS));
+    DECIDED("remote sets", off, true, 1, CRIT(CLEARS));
+    DECIDED("both set", off, true, 1, CRIT(SETS));
+    DECIDED("both clear", off, false, 1, COOL(CLEARS));
+    DECIDED("local alone does not stop", off, true, 2, COOL(CLEARS), CALM(SETS));
+    DECIDED("remote alone does not stop", off, true, 2, COOL(CLEARS), CRIT(HOLDS));
+    DECIDED("local clear, remote set before", off, true, 2, CRIT(CLEARS), CALM(CLEARS));
+    DECIDED("remote clear, local set before", off, true, 3, COOL(SETS), COOL(HOLDS),
+            COOL(HOLDS));
+    DECIDED("pin sure at 2, remote at 3", off, true, 3, COOL(CLEARS), CALM(SETS), CALM(HOLDS));
+    DECIDED("pin sure at 2, local at 3", off, true, 3, CALM(CLEARS), CRIT(HOLDS), WARM(HOLDS));
+    DECIDED("the later one, below", off, false, 1, CRIT(SETS), COOL(CLEARS));
+    DECIDED("the later one, above", off, true, 1, COOL(CLEARS), CRIT(SETS));
+    DECIDED("set, then cleared, then held", off, false, 2, CRIT(SETS), COOL(CLEARS),
+            CALM(HOLDS));
+    for (unsigned latches = 0; latches < 4; latches++) {
+        bool local = latches % 2 != 0, remote = latches / 2 != 0;
+        second_device start = soak_start(0, 0, local, remote);
+        SOAK("held throughout", start, local || remote, 3, CALM(HOLDS), CALM(HOLDS),
+             WARM(HOLDS));
+        SOAK("local cleared, remote held", start, remote, 2, CALM(CLEARS), WARM(HOLDS));
+        SOAK("remote cleared, local held", start, local, 2, COOL(HOLDS), CALM(HOLDS));
+        SOAK("decided at the start", start, false, 2, COOL(CLEARS), CALM(HOLDS));
+    }
+}
+
+/* Both sides of limit and of limit less hysteresis.  Where the last record holds, the one
+ * before it tells what was held; where it does not, that one says the contrary, unread. */
+static void soak_edges(void)
+{
+    second_device off = soak_start(0, 0, false, false);
+    second_device none = soak_set(off, 12, 0); /* hysteresis 0 */
+    second_device third = off;
+    third.variant = 3;
+    third.settings[11] = 105;
+    DECIDED("local 85 holds", off, true, 2, COOL(SETS), COOL(85));
+    DECIDED("local 86 sets", off, true, 1, COOL(CLEARS), COOL(86));
+    DECIDED("local 75 holds", off, true, 2, COOL(SETS), COOL(75));
+    DECIDED("local 74 clears", off, false, 1, COOL(SETS), COOL(74));
+    DECIDED("local -128 clears", off, false, 1, COOL(SETS), COOL(0x80));
+    DECIDED("local 105 holds in LM89-1D", third, false, 2, COOL(CLEARS), COOL(105));
+    DECIDED("local 106 sets in LM89-1D", third, true, 1, COOL(CLEARS), COOL(106));
+    DECIDED("remote 110.000 holds", off, true, 2, CRIT(CLEARS), { 5, CLEARS, 110, 0 });
+    DECIDED("remote 110.125 sets", off, true, 1, COOL(CLEARS), { 5, CLEARS, 110, 0x20 });
+    DECIDED("remote 100.000 holds", off, true, 2, CRIT(CLEARS), { 5, CLEARS, 100, 0 });
+    DECIDED("remote 99.875 clears", off, false, 1, CRIT(CLEARS), { 5, CLEARS, 99, 0xE0 });
+    DECIDED("hysteresis 0, local 85", none, true, 2, COOL(SETS), COOL(85));
+    DECIDED("hysteresis 0, local 84", none, false, 1, COOL(SETS), COOL(84));
+    DECIDED("hysteresis 0, remote 110.000", none, true, 2, CRIT(CLEARS), { 5, CLEARS, 110, 0 });
+    DECIDED("hysteresis 0, remote 109.875", none, false, 1, CRIT(CLEARS),
+            { 5, CLEARS, 109, 0xE0 });
+}
+
+/* Offset, open diode, and limits at the ends of the scale. */
+static void soak_readings(void)
+{
+    second_device off = soak_start(0, 0, false, false);
+    second_device two = soak_set(off, 6, 2);     /* offset 2 */
+    second_device most = soak_set(off, 10, 127); /* remote T_CRIT 127: limit less 10 is 117 */
+    second_device floor = soak_set(soak_set(off, 11, 0x80), 12, 1); /* local T_CRIT -128 */
+    second_device ceiling = soak_set(soak_set(off, 11, 127), 12, 0); /* local T_CRIT 127 */
+    DECIDED("108.125 plus 2 sets", two, true, 1, COOL(CLEARS), { 5, CLEARS, 108, 0x20 });
+    DECIDED("108.000 plus 2 holds", two, false, 2, COOL(CLEARS), { 5, CLEARS, 108, 0 });
+    DECIDED("98.000 plus 2 holds", two, true, 2, CRIT(CLEARS), { 5, CLEARS, 98, 0 });
+    DECIDED("97.875 plus 2 clears", two, false, 1, CRIT(CLEARS), { 5, CLEARS, 97, 0xE0 });
+    DECIDED("127.875 plus 127 is held and sets", soak_set(most, 6, 127), true, 1,
+            COOL(CLEARS), { 5, CLEARS, 127, 0xE0 });
+    DECIDED("open sets", off, true, 1, COOL(CLEARS), { 6, CLEARS, 0, 0 });
+    DECIDED("open holds at T_CRIT 127", most, false, 2, COOL(CLEARS), { 6, CLEARS, 0, 0 });
+    DECIDED("open has no offset", soak_set(most, 6, 5), false, 2, COOL(CLEARS),
+            { 6, CLEARS, 0, 0 });
+    DECIDED("open, local sets", most, true, 2, COOL(CLEARS), { 6, SETS, 0, 0 });
+    DECIDED("T_CRIT -128, -127 sets", floor, true, 2, COOL(0x81), COOL(0x80));
+    DECIDED("T_CRIT 127, 126 clears", ceiling, false, 2, COOL(126), COOL(127));
+    SOAK("T_CRIT -128 never clears", floor, false, 2, COOL(0x80), COOL(0x80));
+    SOAK("T_CRIT 127 never sets", ceiling, false, 2, COOL(127), COOL(127));
+    floor.local_latch = true;
+    ceiling.local_latch = true;
+    SOAK("T_CRIT -128, set before", floor, true, 2, COOL(0x80), COOL(0x80));
+    SOAK("T_CRIT 127, set before", ceiling, true, 2, COOL(127), COOL(127));
+}
+
+/* Masks hide a latch from the pin; its channel has to be decided all the same. */
+static void soak_masks(void)
+{
+    second_device local = soak_start(0x04, 0, false, false);
+    second_device remote = soak_start(0x10, 0, false, false);
+    second_device both = soak_start(0x14, 0, false, false);
+    second_device alert = soak_start(0x80, 0, false, false);
+    DECIDED("local masked, local sets", local, false, 1, COOL(SETS));
+    DECIDED("local masked, remote sets", local, true, 1, CRIT(CLEARS));
+    DECIDED("remote masked, local sets", remote, true, 1, COOL(SETS));
+    DECIDED("remote masked, remote sets", remote, false, 1, CRIT(CLEARS));
+    DECIDED("both masked", both, false, 1, CRIT(SETS));
+    DECIDED("ALERT masked", alert, true, 1, COOL(SETS));
+    DECIDED("local masked and not decided", local, true, 2, COOL(CLEARS), CRIT(HOLDS));
+    DECIDED("local masked, set before", local, false, 2, COOL(SETS), COOL(HOLDS));
+    DECIDED("remote masked and not decided", remote, true, 2, COOL(CLEARS), CALM(SETS));
+    DECIDED("remote masked, set before", remote, false, 2, CRIT(CLEARS), CALM(CLEARS));
+    DECIDED("both masked, neither decided", both, false, 3, CALM(CLEARS), CRIT(HOLDS),
+            WARM(HOLDS));
+}
+
+/* Queue on: what a reading above T_CRIT does hangs on the count, and that on the records
+ * before it.  Counts are of the last records, in their order. */
+static void soak_queue(void)
+{
+    second_device on = soak_start(0x01, 0, false, false);
+    DECIDED("below, no fault", on, false, 1, COOL(0));
+    DECIDED("below, a fault", on, false, 1, CRIT(0), CRIT(0), CRIT(0), COLD(0));
+    DECIDED("three above", on, true, 3, CRIT(0), CRIT(0), CRIT(0));
+    DECIDED("three faults, the last above", on, true, 3, WARM(0), WARM(0), CRIT(0));
+    DECIDED("cleared twice, then 3", on, true, 3, COLD(0), COLD(0), CRIT(0));
+    DECIDED("cleared, then 3", on, true, 3, COLD(0), CRIT(0), CRIT(0));
+    DECIDED("cleared, held, then 3", on, true, 3, COLD(0), WARM(0), CRIT(0));
+    DECIDED("a fault before what clears: 3", on, true, 3, WARM(0), COLD(0), CRIT(0));
+    DECIDED("no fault before what clears: 2", on, false, 3, CALM(0), COLD(0), CRIT(0));
+    DECIDED("below before what clears: 2", on, false, 3, COOL(0), COLD(0), CRIT(0));
+    DECIDED("cleared at 0: 1", on, false, 2, COOL(0), CRIT(0));
+    DECIDED("cleared at 0: 2", on, false, 3, COOL(0), CRIT(0), CRIT(0));
+    DECIDED("cleared, then 0: 1", on, false, 3, COLD(0), CALM(0), CRIT(0));
+    DECIDED("cleared, then 0: 2", on, false, 4, COLD(0), CALM(0), CRIT(0), CRIT(0));
+    DECIDED("cleared, held twice", on, false, 3, COLD(0), WARM(0), WARM(0));
+    DECIDED("the third is not above", on, false, 4, COOL(0), CRIT(0), CRIT(0), WARM(0));
+    DECIDED("the third, then held", on, true, 4, CRIT(0), CRIT(0), CRIT(0), WARM(0));
+    DECIDED("the third, then 0", on, true, 4, CRIT(0), CRIT(0), CRIT(0), CALM(0));
+    DECIDED("third is above, fourth is not", on, true, 4, COLD(0), CRIT(0), CRIT(0), WARM(0));
+    DECIDED("2, then held", on, false, 4, CALM(0), COLD(0), CRIT(0), CALM(0));
+    DECIDED("3, then held", on, true, 4, WARM(0), COLD(0), CRIT(0), CALM(0));
+    DECIDED("3, held at 0, then 1", on, true, 5, CRIT(0), CRIT(0), CRIT(0), CALM(0), CRIT(0));
+    DECIDED("three in a row, none live", on, false, 5, COOL(0), CALM(0), CRIT(0), CRIT(0),
+            WARM(0));
+    DECIDED("local knows no queue", on, true, 1, COOL(SETS));
+    DECIDED("remote at 3, local at 4", on, true, 4, COOL(CLEARS), CRIT(HOLDS), CRIT(HOLDS),
+            CRIT(HOLDS));
+    DECIDED("local at 2, remote at 3", on, true, 3, CRIT(0), CRIT(SETS), CRIT(HOLDS));
+    DECIDED("three open", on, true, 3, { 6, 0, 0, 0 }, { 6, 0, 0, 0 }, { 6, 0, 0, 0 });
+    DECIDED("open, no remote T_CRIT above it", soak_set(on, 10, 127), true, 3, { 6, 0, 0, 0 },
+            COLD(0), { 5, 0, 127, 0x20 });
+}
+
+/* The same stretches with the queue off, where no count matters. */
+static void soak_queue_off(void)
+{
+    second_device off = soak_start(0, 0, false, false);
+    DECIDED("one above", off, true, 1, CRIT(0));
+    DECIDED("cleared, then above", off, true, 1, COLD(0), CRIT(0));
+    DECIDED("above, then held", off, true, 2, CALM(0), COLD(0), CRIT(0), CALM(0));
+    DECIDED("above, then held at a fault", off, true, 2, COOL(0), CRIT(0), WARM(0));
+    DECIDED("cleared, then held", off, false, 2, WARM(0), COLD(0), CALM(0));
+}
+
+/* What is a fault: outside any of three limits, in all eleven bits. */
+static void soak_faults(void)
+{
+    second_device on = soak_start(0x01, 0, false, false);
+    second_device fine = soak_set(on, 8, 0x20); /* remote high limit 105.125 */
+    second_device wide = soak_set(soak_set(on, 4, 127), 5, 0x80);
+    DECIDED("105.000 is none", on, false, 3, { 5, 0, 105, 0 }, COLD(0), CRIT(0));
+    DECIDED("105.125 is one", on, true, 3, { 5, 0, 105, 0x20 }, COLD(0), CRIT(0));
+    DECIDED("105.125 at its limit", fine, false, 3, { 5, 0, 105, 0x20 }, COLD(0), CRIT(0));
+    DECIDED("105.250 above its limit", fine, true, 3, { 5, 0, 105, 0x40 }, COLD(0), CRIT(0));
+    DECIDED("0.000 is none", on, false, 2, { 5, 0, 0, 0 }, CRIT(0));
+    DECIDED("-0.125 is one, after none", on, false, 3, CALM(0), { 5, 0, 0xFF, 0xE0 }, CRIT(0));
+    DECIDED("-0.125 is one, after one", on, true, 3, WARM(0), { 5, 0, 0xFF, 0xE0 }, CRIT(0));
+    DECIDED("T_CRIT alone", wide, true, 3, CRIT(0), CRIT(0), CRIT(0));
+    DECIDED("wide, cold is none", wide, false, 2, COLD(0), CRIT(0));
+    DECIDED("wide, warm is none", wide, false, 4, COLD(0), WARM(0), WARM(0), CRIT(0));
+}
+
+/* A stretch with the queue on that is read to its start: the remote latch is set from a
+ * given count of `least` on, and else kept, or clear if the stretch clears it. */
+static void run_counts(const char *name, uint8_t least, bool clears, const uint8_t *records,
+                       size_t count)
+{
+    for (uint8_t faults = 0; faults <= 3; faults++)
+        for (unsigned latch = 0; latch <= 1; latch++) {
+            bool set = faults >= least || (latch == 1 && !clears);
+            run_soak(name, soak_start(0x01, faults, true, latch == 1), records, count,
+                     (second_soaked){ 0, set, count });
+        }
+}
+#define COUNTS(name, least, clears, ...)                                              \
+    do {                                                                              \
+        static const uint8_t records_[][4] = { __VA_ARGS__ };                         \
+        run_counts(name, least, clears, records_[0],                                  \
+                   sizeof records_ / sizeof *records_);                               \
+    } while (0)
+
+/* The fault count given with the device; 4 is never. */
+static void soak_count_carried(void)
+{
+    COUNTS("one", 2, false, CRIT(0));
+    COUNTS("two", 1, false, CRIT(0), CRIT(0));
+    COUNTS("three", 0, false, CRIT(0), CRIT(0), CRIT(0));
+    COUNTS("held, then one", 1, false, WARM(0), CRIT(0));
+    COUNTS("one, then held", 2, false, CRIT(0), WARM(0));
+    COUNTS("two, then held", 1, false, CRIT(0), CRIT(0), WARM(0));
+    COUNTS("cleared, then one", 1, true, COLD(0), CRIT(0));
+    COUNTS("cleared, then one, then held", 1, true, COLD(0), CRIT(0), CALM(0));
+    COUNTS("none, then two", 4, false, CALM(0), CRIT(0), CRIT(0));
+    COUNTS("none", 4, false, CALM(0));
+    COUNTS("held at a fault", 4, false, WARM(0), WARM(0), WARM(0));
+}
+
+/* 22,000 times a count of 0, 1, 2, never 3: nothing is decided but at a first record that
+ * clears, and the given state answers.  More records than sixteen bits count. */
+static void soak_long(void)
+{
+    enum { TIMES = 22000, LONG = 3 * TIMES };
+    static const uint8_t three[3][4] = { CALM(HOLDS), CRIT(HOLDS), CRIT(HOLDS) };
+    static const uint8_t clears[4] = COOL(CLEARS), sets[4] = CRIT(SETS);
+    static uint8_t records[LONG + 1][4];
+    for (size_t i = 0; i < TIMES; i++)
+        memcpy(&records[3 * i], three, sizeof three);
+    for (unsigned start = 0; start < 4; start++) {
+        bool local = start % 2 != 0, remote = start / 2 != 0;
+        expect_soaked("long", soak_start(0x01, 3, local, remote), records[0], 4 * LONG,
+                      (second_soaked){ 0, local || remote, LONG });
+    }
+    memcpy(records[0], clears, 4);
+    expect_soaked("long, cleared at its start", soak_start(0x01, 3, true, true), records[0],
+                  4 * LONG, (second_soaked){ 0, false, LONG });
+    memcpy(records[LONG], sets, 4);
+    expect_soaked("long, set at its end", soak_start(0, 0, false, false), records[0],
+                  4 * (LONG + 1), (second_soaked){ 0, true, 1 });
+}
+
+/* An empty stretch answers from the given state, and reads nothing. */
+static void soak_empty(void)
+{
+    static const uint8_t bad[4] = UNREAD;
+    static const struct {
+        uint8_t configuration;
+        bool pulled[4]; /* neither latch, local, remote, both */
+    } line[] = {
+        { 0x00, { false, true, true, true } },  { 0x04, { false, false, true, true } },
+        { 0x10, { false, true, false, true } }, { 0x14, { false, false, false, false } },
+        { 0x81, { false, true, true, true } }
+    };
+    for (size_t i = 0; i < sizeof line / sizeof *line; i++)
+        for (unsigned start = 0; start < 16; start++) {
+            second_device device = soak_start(line[i].configuration, (uint8_t)(start / 4),
+                                              start % 2 != 0, start / 2 % 2 != 0);
+            second_soaked want = { 0, line[i].pulled[start % 4], 0 };
+            expect_soaked("empty", device, NULL, 0, want);
+            expect_soaked("empty, of other memory", device, bad, 0, want);
+        }
+}
+
+/* At a record: every kind with operands that are good of kinds 01 to 09 and with bad ones,
+ * and both kinds of conversion with every b and c. */
+static void soak_records(void)
+{
+    second_device device = soak_start(0, 0, true, true);
+    for (unsigned kind = 0; kind <= 255; kind++) {
+        const uint8_t good[4] = { (uint8_t)kind, 0, 0, 0 };
+        const uint8_t bad[4] = { (uint8_t)kind, 0xFF, 0xFF, 0xFF };
+        bool conversion = kind == 5 || kind == 6;
+        second_soaked want = { conversion ? 0 : 3, kind == 6, 1 };
+        expect_soaked("kind", device, good, 4, want);
+        want = (second_soaked){ conversion ? 4 : 3, false, 1 };
+        expect_soaked("kind, operands bad", device, bad, 4, want);
+    }
+    for (unsigned byte = 0; byte <= 255; byte++) {
+        const uint8_t sample[4] = { 5, 0xFF, 0xFF, (uint8_t)byte };
+        const uint8_t open_b[4] = { 6, 0xFF, (uint8_t)byte, 0 };
+        const uint8_t open_c[4] = { 6, 0xFF, 0, (uint8_t)byte };
+        second_soaked refused_4 = { 4, false, 1 }, open = { 0, true, 1 };
+        second_soaked clear = { 0, false, 1 };
+        expect_soaked("05, c", device, sample, 4, byte % 32 == 0 ? clear : refused_4);
+        expect_soaked("06, b", device, open_b, 4, byte == 0 ? open : refused_4);
+        expect_soaked("06, c", device, open_c, 4, byte == 0 ? open : refused_4);
+    }
+}
+
+/* The first from the end counts, `read` has it in, and what is not read is not judged. */
+static void soak_first_bad(void)
+{
+    second_device off = soak_start(0, 0, false, false);
+    second_device on = soak_start(0x01, 0, false, false);
+    REFUSED("3 before 4, from the end", off, 3, 1, { 5, 0, 0, 1 }, UNREAD);
+    REFUSED("4 before 3, from the end", off, 4, 1, UNREAD, { 5, 0, 0, 1 });
+    REFUSED("08", off, 3, 1, COOL(CLEARS), { 8, 0, 0, 0 });
+    REFUSED("09 after a record that holds", off, 3, 2, { 9, 0, 0, 0 }, CALM(HOLDS));
+    REFUSED("a write", off, 3, 2, COOL(CLEARS), { 1, 0x4C, 9, 0 }, WARM(HOLDS));
+    REFUSED("07 with a bad operand", off, 3, 2, { 7, 1, 0, 0 }, CALM(HOLDS));
+    REFUSED("00", off, 3, 3, { 0, 0, 0, 0 }, CALM(HOLDS), CALM(HOLDS));
+    REFUSED("FF", off, 3, 3, { 0xFF, 0, 0, 0 }, CALM(HOLDS), CALM(HOLDS));
+    REFUSED("at the start", off, 4, 3, { 6, 0, 0, 1 }, CALM(HOLDS), CALM(HOLDS));
+    REFUSED("pin sure, remote not", off, 3, 2, UNREAD, CALM(SETS));
+    REFUSED("pin sure, local not", off, 4, 2, { 5, SETS, 111, 31 }, CRIT(HOLDS));
+    REFUSED("a bad one would decide", off, 4, 2, { 5, CLEARS, 50, 8 }, CALM(HOLDS));
+    REFUSED("cleared, count not known", on, 3, 3, UNREAD, COLD(0), CRIT(0));
+    REFUSED("2 of 3 known", on, 4, 3, { 6, 0, 1, 0 }, CRIT(0), CRIT(0));
+    SOAK("not read: one", off, false, 1, { 5, 0, 0, 1 }, COOL(CLEARS));
+    SOAK("not read: many", off, true, 2, { 0xFF, 0xFF, 0xFF, 0xFF }, { 6, 0, 0, 9 }, UNREAD,
+         COOL(SETS), CALM(HOLDS));
+    SOAK("not read, queue off", off, true, 1, UNREAD, COLD(0), CRIT(0));
+    SOAK("not read, queue on", on, true, 3, UNREAD, CRIT(0), CRIT(0), CRIT(0));
+}
+
+/* One code for these lengths and whatever the bytes are: `read` is 0, nothing pulled. */
+static void soak_refused(const char *name, second_device device, uint8_t code)
+{
+    static const uint8_t good[8] = { 5, SETS, 111, 0, 5, SETS, 111, 0 };
+    static const uint8_t bad[8] = { 0xFF, 0, 0, 0, 5, 0, 0, 1 };
+    second_soaked want = { code, false, 0 };
+    expect_soaked(name, device, NULL, 0, want);
+    for (size_t length = 1; length <= sizeof good; length++) {
+        expect_soaked(name, device, good, length, want);
+        expect_soaked(name, device, bad, length, want);
+    }
+}
+
+/* 8, then 10, then 4 for the length, then the records. */
+static void soak_order(void)
+{
+    static const struct {
+        int field, value;
+    } out[] = { { POINTER, 0x15 }, { STATUS, 0x80 }, { LIVE, 0x80 }, { REMOTE, 1024 },
+                { REMOTE, -1025 }, { FAULTS, 4 }, { FAULTS, 255 }, { LOW, 0x20 },
+                { SETTING + 7, 0x10 }, { SETTING + 12, 0x20 }, { SETTING + 13, 0x08 } };
+    static const uint8_t conversions[8] = { 5, 0, 0, 0, 5, 0, 0, 0 };
+    static const uint8_t others[8] = { 5, 0, 0, 1, 7, 0, 0, 0 };
+    static const uint8_t variants[] = { 0, 4, 255 };
+    for (unsigned standby = 0; standby <= 0x40; standby += 0x40) {
+        second_device start = soak_start((uint8_t)standby, 0, true, true), device;
+        for (size_t i = 0; i < sizeof out / sizeof *out; i++) {
+            device = start;
+            set_field(&device, out[i].field, out[i].value);
+            soak_refused("out of range", device, 8);
+        }
+        for (size_t i = 0; i < sizeof variants; i++) {
+            device = start;
+            device.variant = variants[i];
+            soak_refused("variant", device, 8);
+        }
+        device = start;
+        device.pending = true;
+        soak_refused("pending", device, standby == 0 ? 8 : 10);
+    }
+    soak_refused("all zeros", (second_device){ 0 }, 8);
+    soak_refused("configuration 42", soak_start(0x42, 0, true, true), 8);
+    soak_refused("standby", soak_start(0x40, 0, true, true), 10);
+    soak_refused("standby, all other bits", soak_start(0xD5, 3, true, true), 10);
+    for (size_t length = 1; length < 8; length++) {
+        if (length == 4)
+            continue;
+        second_soaked want = { 4, false, 0 };
+        expect_soaked("length", soak_start(0, 0, true, true), conversions, length, want);
+        expect_soaked("length before records", soak_start(0, 0, true, true), others, length, want);
+    }
+}
+
+/* All stretches of up to five of the five remote readings, against P4 and P8 in the words of
+ * this table: from each latch and count, the latch after the last `count` records. */
+static bool latch_of(const uint8_t *pick, size_t count, bool queue, bool latch, unsigned faults)
+{
+    static const struct {
+        bool above, below, fault;
+    } reading[5] = { { true, false, true }, { false, false, true }, { false, false, false },
+                     { false, true, false }, { false, true, true } };
+    for (size_t i = 0; i < count; i++) {
+        faults = !reading[pick[i]].fault ? 0 : faults == 3 ? 3 : faults + 1;
+        if (reading[pick[i]].above && (!queue || faults == 3))
+            latch = true;
+        else if (reading[pick[i]].below)
+            latch = false;
+    }
+    return latch;
+}
+
+/* How many records from the end force the latch; all if none do. */
+static size_t forced_by(const uint8_t *pick, size_t count, bool queue)
+{
+    for (size_t n = 1; n < count; n++) {
+        int set = 0;
+        for (unsigned earlier = 0; earlier < 8; earlier++)
+            set += latch_of(pick + count - n, n, queue, earlier % 2 != 0, earlier / 2);
+        if (set == 0 || set == 8)
+            return n;
+    }
+    return count;
+}
+
+static void soak_every_row(void)
+{
+    static const uint8_t reading[5][4] = { CRIT(0), WARM(0), CALM(0), COOL(0), COLD(0) };
+    for (size_t count = 1, rows = 5; count <= 5; count++, rows *= 5)
+        for (size_t row = 0; row < 2 * rows; row++) {
+            uint8_t pick[5], records[5][4];
+            bool queue = row % 2 != 0;
+            for (size_t i = 0, rest = row / 2; i < count; i++, rest /= 5) {
+                pick[i] = (uint8_t)(rest % 5);
+                memcpy(records[i], reading[pick[i]], 4);
+            }
+            size_t read = forced_by(pick, count, queue);
+            for (unsigned start = 0; start < 8; start++) {
+                bool latch = start % 2 != 0;
+                second_soaked want = { 0, latch_of(pick, count, queue, latch, start / 2), read };
+                expect_soaked("every row", soak_start(queue, (uint8_t)(start / 2), true, latch),
+                              records[0], 4 * count, want);
+            }
+        }
+}
+
+/* A random device in its ranges and in run mode, its remote limits often near T_CRIT. */
+static second_device any_soak_device(void)
+{
+    static const uint8_t pointers[] = { 0, 1, 2, 9, 0x0F, 0x10, 0x21, 0xBF, 0xFF };
+    second_device device;
+    second_power_on(&device, (uint8_t)(1 + next(3)));
+    device.pointer = pointers[next(sizeof pointers)];
+    device.status = (uint8_t)next(128);
+    device.live = (uint8_t)next(128);
+    device.local = (uint8_t)next(256);
+    device.remote = (int16_t)((int)next(2048) - 1024);
+    device.faults = (uint8_t)next(4);
+    device.local_latch = next(2) != 0;
+    device.remote_latch = next(2) != 0;
+    device.lowkept = next(2) != 0;
+    device.low = device.lowkept ? (uint8_t)(32 * next(8)) : 0;
+    uint8_t *set = device.settings;
+    set[0] = (uint8_t)(next(256) & 0x94u) | (next(4) != 0);
+    set[10] = (uint8_t)next(256);
+    set[11] = (uint8_t)next(256);
+    set[12] = (uint8_t)next(32);
+    set[4] = (uint8_t)(next(4) ? set[10] - next(32) : next(256));
+    set[5] = (uint8_t)(next(4) ? set[10] - next(48) : next(256));
+    set[8] = (uint8_t)(32 * next(8));
+    set[9] = (uint8_t)(32 * next(8));
+    set[13] = (uint8_t)next(8);
+    if (next(4) == 0) {
+        set[6] = (uint8_t)(next(2) ? next(5) - 2 : next(256));
+        set[7] = (uint8_t)(32 * next(8));
+    }
+    return device;
+}
+
+/* A temperature in eighths as a number of the scale. */
+static int within_scale(int number)
+{
+    return number < -1024 ? -1024 : number > 1023 ? 1023 : number;
+}
+
+/* Signed, of a byte. */
+static int signed_of(uint8_t byte)
+{
+    return byte < 128 ? byte : byte - 256;
+}
+
+/* A number that is mostly between the limit and the limit less hysteresis, ends included, at
+ * times a little above or below. */
+static int near_limit(int limit, int hysteresis, uint32_t beyond)
+{
+    switch (next(8)) {
+    case 0:
+    case 1:
+        return limit + 1 + (int)next(beyond);
+    case 2:
+        return limit - hysteresis - 1 - (int)next(beyond);
+    default:
+        return limit - (int)next((uint32_t)hysteresis + 1);
+    }
+}
+
+/* A valid 05 or 06 for the device, its readings mostly such that they hold. */
+static void any_soak_record(const second_device *device, uint8_t record[4])
+{
+    const uint8_t *set = device->settings;
+    int local = within_scale(8 * near_limit(signed_of(set[11]), set[12], 2)) / 8;
+    int offset = signed_of(set[6]) * 8 + set[7] / 32;
+    int remote = within_scale(near_limit(signed_of(set[10]) * 8, set[12] * 8, 24) - offset);
+    bool open = next(16) == 0, anything_goes = next(32) == 0;
+    record[0] = open ? 6 : 5;
+    record[1] = anything_goes ? (uint8_t)next(256) : high_of(8 * local);
+    record[2] = open ? 0 : anything_goes ? (uint8_t)next(256) : high_of(remote);
+    record[3] = open ? 0 : low_of(remote);
+}
+
+/* Bytes that are no valid 05 or 06. */
+static void spoil(uint8_t record[4])
+{
+    if (next(2) == 0)
+        record[3] |= 1;
+    else
+        record[0] = (uint8_t)(next(2) ? 7 + next(249) : next(5));
+}
+
+/* Random stretches: as by trial, and where every record is valid the pin of the full run. */
+static void soak_at_random(void)
+{
+    int deep = 0, to_start = 0, refused_there = 0, unjudged = 0, pulled = 0;
+    seed = 1989;
+    for (int round = 0; round < 20000; round++) {
+        uint8_t records[SOAK_MOST][4] = { { 0 } };
+        second_device device = any_soak_device();
+        size_t count = next(SOAK_MOST + 1);
+        bool spoilt = count > 0 && next(3) == 0;
+        CHECK(second_device_in_range(&device));
+        for (size_t i = 0; i < count; i++)
+            any_soak_record(&device, records[i]);
+        if (spoilt)
+            spoil(records[next((uint32_t)count)]);
+        second_soaked got = second_soak(device, count > 0 ? records[0] : NULL, 4 * count);
+        CHECK(same_soaked(got, soak_by_trial(device, records[0], count)));
+        if (!spoilt)
+            CHECK(got.code == 0 &&
+                  got.pulled == ((pins_of(run_records(device, records[0], count)) & 2) != 0));
+        deep += got.code == 0 && got.read > 4 && got.read < count;
+        to_start += got.code == 0 && got.read == count;
+        refused_there += got.code != 0;
+        unjudged += spoilt && got.code == 0;
+        pulled += got.pulled;
+    }
+    CHECK(deep > 1000 && to_start > 1000 && refused_there > 500 && unjudged > 500);
+    CHECK(pulled > 2000 && pulled < 18000);
+}
+
 /* Document 01's scripts, requests a and b. */
 static void rulings_and_readings(void)
 {
@@ -2452,12 +3120,33 @@ static void accounts(void)
     account_captures();
 }
 
+/* Request f. */
+static void soaks(void)
+{
+    soak_channels();
+    soak_edges();
+    soak_readings();
+    soak_masks();
+    soak_queue();
+    soak_queue_off();
+    soak_faults();
+    soak_count_carried();
+    soak_long();
+    soak_empty();
+    soak_records();
+    soak_first_bad();
+    soak_order();
+    soak_every_row();
+    soak_at_random();
+}
+
 int main(void)
 {
     rulings_and_readings();
     two_devices();
     over_captures();
     accounts();
+    soaks();
     puts(wrong == 0 ? "all right" : "WRONG");
     return wrong != 0;
 }
