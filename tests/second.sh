@@ -12,7 +12,7 @@ stop() {
 }
 
 cc "${flags[@]}" -fsanitize=address,undefined -fno-sanitize-recover=all -o build/second-selftest \
-    second/second.c second/account.c second/selftest.c
+    second/second.c second/soak.c second/account.c second/selftest.c
 ASAN_OPTIONS=detect_leaks=0 build/second-selftest || stop "second/selftest.c failed, see above"
 cc "${flags[@]}" -o build/second-listing second/second.c second/listing.c
 for hex in samples/*.hex; do

@@ -7,13 +7,15 @@ DEVICES, FIRST, SECOND = 14, 15, 42  # where the device count and the two device
 
 NAMES = {
     "N": "fresh reader", "R": "set the reader", "F": "feed", "E": "finish", "D": "set the device", "P": "power on",
-    "S": "step", "W": "write event", "H": "write header", "G": "write header of two", "B": "decode", "C": "run",
+    "S": "step", "W": "write event", "H": "write header", "G": "write header of two", "B": "decode", "C": "run", "K": "soak",
 }
 KINDS = {
     1: "write", 2: "read", 3: "send", 4: "receive", 5: "conversion", 6: "conversion, diode open", 7: "power-on",
     8: "conversion of the second", 9: "conversion of the second, diode open",
 }
 ONE_DEVICE_KINDS = range(1, 8)
+# The operands of each kind that the table of kinds restricts.
+RESTRICTED = {1: "a", 2: "ac", 3: "ac", 4: "abc", 5: "c", 6: "bc", 7: "abc", 8: "c", 9: "bc"}
 DEVICE_FIELDS = [
     ("variant", 1), ("pointer", 1), ("one-shot pending", 1), ("status", 1), ("local reading", 1), ("remote reading", 2),
     ("live byte", 1), ("fault count", 1), ("local latch", 1), ("remote latch", 1), ("configuration 09", 1), ("rate 0A", 1),
@@ -27,12 +29,24 @@ READER_FIELDS = [
 ] + [(f"{which}: {name}", length) for which in ("first", "second") for name, length in DEVICE_FIELDS]
 FIXED_CALLS = {78: 1, 82: 1 + READER_BYTES, 69: 1, 68: 1 + DEVICE_BYTES, 80: 2, 83: 5, 87: 7, 72: 8, 71: 9, 66: 6}
 ROOM_PLACES = {70: (3, 5), 87: (5, 7), 72: (6, 8), 71: (7, 9), 67: (5, 9)}  # where a call has the room that it lends
-FIXED_RESULTS = {78: 1, 82: 1, 69: 2, 68: 1, 80: 1 + DEVICE_BYTES, 83: 4 + DEVICE_BYTES, 66: 6}
+FIXED_RESULTS = {78: 1, 82: 1, 69: 2, 68: 1, 80: 1 + DEVICE_BYTES, 83: 4 + DEVICE_BYTES, 66: 6, 75: 11}
 
 
 def kinds_under(devices):
     """The kinds of record that a device count knows."""
     return tuple(KINDS) if devices == 2 else ONE_DEVICE_KINDS
+
+
+def broken_operands(record):
+    """The operands of a record that break the table of kinds."""
+    kind = record[0]
+    broken = ""
+    for operand in RESTRICTED.get(kind, ""):
+        value = record["abc".index(operand) + 1]
+        address = operand == "a" and kind <= 4
+        bad = value & 0x80 if address else value % 32 if kind in (5, 8) else value
+        broken += operand if bad else ""
+    return broken
 
 
 def number(some_bytes):
@@ -46,6 +60,8 @@ def call_length(stream, at):
         return 5 + number(stream[at + 1 : at + 3])
     if command == 67:  # C
         return 9 + number(stream[at + 1 : at + 5])
+    if command == 75:  # K
+        return 5 + number(stream[at + 1 : at + 5])
     return FIXED_CALLS[command]
 
 
@@ -103,12 +119,20 @@ def run_call(capture, lent):
     return b"C" + len(capture).to_bytes(4, "big") + lent.to_bytes(4, "big") + capture
 
 
+def soak_call(stretch):
+    return b"K" + len(stretch).to_bytes(4, "big") + stretch
+
+
 def feed_part(call):
     return call[5:]
 
 
 def run_capture(call):
     return call[9:]
+
+
+def soak_stretch(call):
+    return call[5:]
 
 
 def header_bytes(devices):
@@ -136,6 +160,11 @@ def hexed(some_bytes, most=64):
     """Hex text, cut after so many bytes."""
     text = some_bytes[:most].hex(" ").upper()
     return text + (f" .. ({len(some_bytes)} bytes)" if len(some_bytes) > most else "")
+
+
+def stretch_words(stretch, most=64):
+    """A stretch of records: its end, which is what a soak reads first."""
+    return f"{len(stretch)} bytes{', the last' if len(stretch) > most else ''}: {hexed(stretch[-most:])}"
 
 
 def fields(layout, dump):
@@ -167,6 +196,7 @@ def call_words(call):
         "G": lambda: f"variants {call[1]} and {call[2]}, count {number(call[3:7])}, room {room(call)}",
         "B": lambda: f"device count {call[1]}, {hexed(call[2:])}",
         "C": lambda: f"room {room(call)}, {len(run_capture(call))} bytes: {hexed(run_capture(call))}",
+        "K": lambda: stretch_words(soak_stretch(call)),
     }
     return f"{NAMES[command]}: {told[command]()}" if command in told else NAMES[command]
 
@@ -189,5 +219,6 @@ def result_fields(call, result):
         "G": [("command", 1), ("code", 1), ("room", lent)],
         "B": [("command", 1), ("code", 1), ("kind", 1), ("a", 1), ("b", 1), ("c", 1)],
         "C": [("command", 1), ("result", 8), ("room", lent)],
+        "K": [("command", 1), ("code", 1), ("pulled", 1), ("records read", 8)],
     }
     return fields(layouts.get(command, [("command", 1)]), result)

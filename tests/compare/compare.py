@@ -100,7 +100,8 @@ def without_groups(items, size, still):
 
 def state_call(parts, results, at):
     """A call that sets the reader or device as it stands before a call, or None where the call needs none."""
-    setters = {"S": ("D", "PS", calls.DEVICE_BYTES), "F": ("R", "F", calls.READER_BYTES), "E": ("R", "F", calls.READER_BYTES)}
+    of_device, of_reader = ("D", "PS", calls.DEVICE_BYTES), ("R", "F", calls.READER_BYTES)
+    setters = {"S": of_device, "K": of_device, "F": of_reader, "E": of_reader}
     command = chr(parts[at][0])
     if command not in setters:
         return None
@@ -158,6 +159,17 @@ def shorter_feed(pair, parts, at):
     return rebuilt(kept, lent)
 
 
+def shorter_soak(pair, parts, at):
+    """The soak at this place with fewer records in its stretch; what is no whole record stands at the end."""
+    stretch = calls.soak_stretch(parts[at])
+    records = [stretch[i : i + calls.RECORD_BYTES] for i in range(0, len(stretch), calls.RECORD_BYTES)]
+
+    def rebuilt(kept):
+        return parts[:at] + [calls.soak_call(b"".join(kept))] + parts[at + 1 :]
+
+    return rebuilt(without_some(records, lambda kept: pair.disagree(rebuilt(kept))))
+
+
 def plainer_state(pair, parts, at):
     """The call at this place, which sets a state, with as many bytes 0 as can be."""
     for place in range(1, len(parts[at])):
@@ -177,6 +189,8 @@ def shortest(pair, parts, results, at):
             parts = parts[:place] + [shorter_run(pair, call)] + parts[place + 1 :]
         if call[:1] == b"F":
             parts = shorter_feed(pair, parts, place)
+        if call[:1] == b"K":
+            parts = shorter_soak(pair, parts, place)
     return parts
 
 

@@ -2,8 +2,9 @@
 """covered.py STREAM...: counts what streams of calls and their results (STREAM.results) covered, and prints a table.
 
 Fails, naming it, if anything of the table never occurred, or below 200,000 calls or 1,000,000 records, or if D4 to D7 of an answer
-are not as request b has them (held.py), or an answer or a device of two not as request c has it (pairs.py). A record is one that was
-answered: by a step, a feed or a run. What happened is decided from the stream and from the results, which both sides share.
+are not as request b has them (held.py), or an answer or a device of two not as request c has it (pairs.py), or a soak not as request f
+has it (soaks.py). A record is one that was answered, by a step, a feed or a run, or read by a soak. What happened is decided from the
+stream and from the results, which both sides share.
 """
 import collections
 import concurrent.futures
@@ -15,6 +16,7 @@ import held
 import lowbyte
 import pairs
 import ranges
+import soaks
 import steps
 from table import Table
 
@@ -29,15 +31,13 @@ CODES = {
     "finish": (8,), "finish under 0": (1, 6), "finish under 1": (0, 2, 3, 4, 5, 6), "finish under 2": (0, 2, 3, 4, 5, 6, 9),
     "run under 0": (1, 6), "run under 1": (0, 2, 3, 4, 5, 6, 7), "run under 2": (0, 2, 3, 4, 5, 6, 7, 9),
     "step": (0, 3, 4, 8), "write event": (0, 3, 4, 7), "write header": (0, 2, 7), "write header of two": (0, 2, 7, 9),
-    "decode under 1": (0, 3, 4), "decode under 2": (0, 3, 4),
+    "decode under 1": (0, 3, 4), "decode under 2": (0, 3, 4), "soak": (0, 3, 4, 8, 10),
 }
 # What judges records, and the device count under which it does.
 JUDGES = {
     "feed under 1": 1, "feed under 2": 2, "run under 1": 1, "run under 2": 2, "decode under 1": 1, "decode under 2": 2, "step": 1,
     "write event": 2,
 }
-# The operands of each kind that the table of kinds restricts.
-RESTRICTED = {1: "a", 2: "ac", 3: "ac", 4: "abc", 5: "c", 6: "bc", 7: "abc", 8: "c", 9: "bc"}
 UNKNOWN_KINDS = {1: (0, 8, 9, 10, 255), 2: (0, 10, 255)}
 # The row of each kind that a call takes.
 KIND_ROWS = {call: {kind: f"{call}: kind {kind} {calls.KINDS[kind]}" for kind in calls.kinds_under(devices)} for call, devices in JUDGES.items()}
@@ -45,18 +45,6 @@ FEEDS = ("feed under 0", "feed under 1", "feed under 2")
 ANSWER_BITS = ("ALERT pulled", "T_CRIT_A pulled", "acknowledged", "conversion taken", "sum held")
 BYTES = set(range(256))
 VARIANTS = {1, 2, 3}
-
-
-def broken_operands(record):
-    """The operands of a record that break the table of kinds."""
-    kind = record[0]
-    broken = ""
-    for operand in RESTRICTED.get(kind, ""):
-        value = record["abc".index(operand) + 1]
-        address = operand == "a" and kind <= 4
-        bad = value & 0x80 if address else value % 32 if kind in (5, 8) else value
-        broken += operand if bad else ""
-    return broken
 
 
 def devices_of(reader):
@@ -88,12 +76,13 @@ def need_everything(table):
     held.need(table)
     pairs.need(table)
     ranges.need(table)
+    soaks.need(table)
 
 
 def need_refusals(table):
     for call, devices in JUDGES.items():
         for kind in calls.kinds_under(devices):
-            for operand in RESTRICTED[kind]:
+            for operand in calls.RESTRICTED[kind]:
                 table.need(f"{call}: kind {kind}, operand {operand} broken alone")
         table.need(*(f"{call}: kind {kind}" for kind in UNKNOWN_KINDS[devices]), f"{call}: 3 before 4")
         if devices == 1:
@@ -174,6 +163,7 @@ class Watcher:
         self.feeds = lowbyte.Feeds(self.table)
         self.held_feeds = held.Feeds(self.table)
         self.pair_feeds = pairs.Feeds(self.table)
+        self.soaks = soaks.Soaks(self.table)
         parts = calls.split(stream)
         self.calls = len(parts)
         for command, times in collections.Counter(call[0] for call in parts).items():
@@ -325,7 +315,7 @@ class Watcher:
 
     def see_refused(self, name, code, record, no_room=False):
         """A record that got 3 or 4; with no room it would get 7 if it were right."""
-        broken = broken_operands(record)
+        broken = calls.broken_operands(record)
         if code == 3:
             if record[0] in UNKNOWN_KINDS[JUDGES[name]]:
                 self.table.count(f"{name}: kind {record[0]}")
@@ -404,6 +394,7 @@ class Watcher:
     def set_device(self, device):
         self.steps.set_device(device)
         self.held_steps.set_device()
+        self.soaks.set_device()
 
     def see_step(self, call, result):
         code, record = result[1], call[1:5]
@@ -417,10 +408,15 @@ class Watcher:
             self.table.count("step: 8 before 3")
             if record[0] in calls.KINDS:
                 self.table.count(f"step: 8 before 3, kind {record[0]}")
-        elif broken_operands(record):
+        elif calls.broken_operands(record):
             self.table.count("step: 8 before 4")
         self.held_steps.see(record, self.steps.device, result)
         self.steps.see(record, result)
+        self.soaks.see_step(record, result)
+
+    def see_soak(self, call, result):
+        self.records += calls.number(result[3:])
+        self.soaks.see(self.steps.device, calls.soak_stretch(call), result)
 
     # ---- The writers and the decoder ----
 
@@ -504,7 +500,7 @@ def main():
     for words in table.wrong[:WRONG_SHOWN_MOST]:
         print(f"covered: wrong: {words}")
     if table.wrong:
-        print(f"covered: {len(table.wrong)} answers are not as requests b and c have them")
+        print(f"covered: {len(table.wrong)} answers are not as requests b, c and f have them")
     return 1 if missed or table.wrong else 0
 
 

@@ -1,6 +1,6 @@
 #!/usr/bin/env python3
-"""faults.py [JOBS]: puts each fault of tests/compare/faults.txt into a copy of second/second.c, alone, and sees whether the
-comparison notices: whether its results on the streams, or its listings, differ from those of second/second.c as it is.
+"""faults.py [JOBS]: puts each fault of tests/compare/faults.txt into a copy of second/second.c or second/soak.c, alone, and sees
+whether the comparison notices: whether its results on the streams, or its listings, differ from those of second/ as it is.
 
 Run tests/compare.sh first: it leaves the streams and the results in build/compare. JOBS is 1 (so too if not given) or 2. Prints
 for each fault the first stream and call that notices it, and the other streams that do. Fails if one is not noticed, does not
@@ -16,7 +16,9 @@ import calls
 
 ROOT = pathlib.Path(__file__).resolve().parent.parent.parent
 BUILD = ROOT / "build" / "compare"
-THEMES = ("writer", "device-ranges", "reader-ranges", "pair", "device", "reader", "runs", "listed")
+THEMES = ("writer", "device-ranges", "reader-ranges", "pair", "device", "reader", "runs", "listed", "soaks")
+# The files that faults are of, and the streams that call them: soaks stand in one alone.
+FILES = {"second.c": THEMES, "soak.c": ("soaks",)}
 SECONDS_MOST = 60
 
 
@@ -31,9 +33,16 @@ def read_faults(text):
     return faults
 
 
-def compiled(source, front_end, program):
-    """Whether the faulty copy compiles with this front end."""
-    command = ["cc", "-std=c11", "-O1", "-I", "second", "-o", str(program), str(source), f"second/{front_end}"]
+def sections(text):
+    """(file, text of its faults) of each part of the text: a line '@ FILE' begins one, those before the first are of second.c."""
+    first, *others = re.split(r"^@ ", text, flags=re.M)
+    return [("second.c", first), *(other.split("\n", 1) for other in others)]
+
+
+def compiled(file, copy, front_end, program):
+    """Whether the faulty copy of a file compiles with the other files and this front end."""
+    others = [f"second/{other}" for other in FILES if other != file]
+    command = ["cc", "-std=c11", "-O1", "-I", "second", "-o", str(program), str(copy), *others, f"second/{front_end}"]
     return subprocess.run(command, cwd=ROOT, capture_output=True).returncode == 0
 
 
@@ -52,10 +61,10 @@ def first_call(stream, expected, given):
     return f"call {at + 1}, {calls.NAMES[chr(parts[at][0])]}"
 
 
-def noticed_in_streams(program):
+def noticed_in_streams(program, themes):
     """(theme, call) for each stream whose results differ."""
     found = []
-    for theme in THEMES:
+    for theme in themes:
         stream = (BUILD / f"{theme}.stream").read_bytes()
         expected = (BUILD / f"{theme}.stream.results").read_bytes()
         given = answer(program, stream)
@@ -72,17 +81,18 @@ def noticed_in_listings(program):
     return []
 
 
-def tried(number, fault, source):
+def tried(number, file, fault):
     """(whether it was noticed, what to say)."""
     name, old, new = fault
+    source = (ROOT / "second" / file).read_text()
     if source.count(old) != 1 or old == "":
-        return False, f"{name}: stands {source.count(old)} times in second/second.c, must stand once"
+        return False, f"{name}: stands {source.count(old)} times in second/{file}, must stand once"
     copy, program = BUILD / f"fault-{number}.c", BUILD / f"fault-{number}"
     copy.write_text(source.replace(old, new))
-    if not compiled(copy, "replay.c", program):
+    if not compiled(file, copy, "replay.c", program):
         return False, f"{name}: does not compile, see {copy}"
-    found = noticed_in_streams(program)
-    if not found and compiled(copy, "listing.c", program):
+    found = noticed_in_streams(program, FILES[file])
+    if not found and compiled(file, copy, "listing.c", program):
         found = noticed_in_listings(program)
     if not found:
         return False, f"{name}: NOT NOTICED, see {copy}"
@@ -94,12 +104,12 @@ def tried(number, fault, source):
 
 def main():
     jobs = 2 if sys.argv[1:] == ["2"] else 1
-    source = (ROOT / "second" / "second.c").read_text()
-    faults = read_faults((ROOT / "tests" / "compare" / "faults.txt").read_text())
+    text = (ROOT / "tests" / "compare" / "faults.txt").read_text()
+    faults = [(file, fault) for file, part in sections(text) for fault in read_faults(part)]
     missed = 0
     print("| fault | noticed first in | also in |\n|---|---|---|")
     with concurrent.futures.ThreadPoolExecutor(max_workers=jobs) as pool:
-        for noticed, said in pool.map(lambda pair: tried(*pair, source), enumerate(faults, 1)):
+        for noticed, said in pool.map(lambda numbered: tried(numbered[0], *numbered[1]), enumerate(faults, 1)):
             missed += not noticed
             print(f"| {said} |" if noticed else f"faults: {said}", flush=True)
     print(f"faults: {len(faults) - missed} of {len(faults)} noticed")

@@ -1,5 +1,5 @@
 /* Answers a stream of calls, in the format at the head of second/replay.c, by the C library. Each room lent to it stands between
- * guard bytes, and an empty room or input is NULL. */
+ * guard bytes, as do the records of a soak, and an empty room or input is NULL. */
 #include <lm89.h>
 
 #include <stdio.h>
@@ -271,6 +271,24 @@ static void run(void)
     put_room(room);
 }
 
+/* The records stand between guard bytes, which are no record: one read before the first or past the last would be refused with 3.
+ * Whether they are as given is seen by a copy, since a const says so to the compiler alone. */
+static void soak(lm89_device device)
+{
+    uint32_t length = get_number(4);
+    uint8_t *records = lend(length);
+    get(lent, length);
+    memcpy(given, lent, length);
+    lm89_soaked soaked = lm89_soak(device, records, length);
+    check_untouched(guarded, GUARD);
+    check_untouched(lent + length, GUARD);
+    if (memcmp(given, lent, length) != 0)
+        stop("records are written, which may only be read");
+    put_byte(soaked.code);
+    put_byte(soaked.pulled);
+    put_number(soaked.read, 8);
+}
+
 static void answer(lm89_reader *reader, lm89_device *device)
 {
     taken++;
@@ -288,6 +306,7 @@ static void answer(lm89_reader *reader, lm89_device *device)
     case 'G': write_header_2(); break;
     case 'B': decode(); break;
     case 'C': run(); break;
+    case 'K': soak(*device); break;
     default: stop("there is no such call");
     }
 }

@@ -75,9 +75,9 @@ def told(value, fits):
 
 
 def need(table):
-    need_device(table, "step")
-    for value, fits in VARIANT_ENDS:
-        table.need(f"step: variant {told(value, fits)}")
+    for name in ("step", "soak"):
+        need_device(table, name)
+        table.need(*(f"{name}: variant {told(value, fits)}" for value, fits in VARIANT_ENDS))
     for name in ("feed", "finish"):
         for which in (ONLY, FIRST_OF_TWO, SECOND_OF_TWO):
             need_device(table, f"{name}, {which}")
@@ -185,12 +185,12 @@ def see_variant(table, name, variant, faults, code):
             table.count(f"{name} {told(value, fits)}")
 
 
-def see_step(table, device, code):
-    """A device that a step was asked of."""
+def see_alone(table, name, device, code):
+    """A device that a step or a soak was asked of."""
     faults = device_faults(device) if code == 8 else []
-    see_variant(table, "step: variant", device[0], faults, code)
+    see_variant(table, f"{name}: variant", device[0], faults, code)
     if 1 <= device[0] <= 3:
-        see_device(table, "step", device, faults, code)
+        see_device(table, name, device, faults, code)
 
 
 def reader_faults(reader):

@@ -173,7 +173,7 @@ class Steps:
     def see(self, event, result):
         before, code, after = self.device, result[1], result[4:]
         if self.just_set and code in (0, 8):
-            ranges.see_step(self.table, before, code)
+            ranges.see_alone(self.table, "step", before, code)
         self.just_set = False
         self.device = after
         if code in (3, 4):
