@@ -50,7 +50,8 @@ module _ (k a b c : ℕ) (xs : List ℕ) where
   backwards-shift : (n : ℕ) → backwards (k ∷ a ∷ b ∷ c ∷ xs) (suc n) ≡ backwards xs n ++ (quad k a b c ∷ [])
   unfolding backwards
   backwards-shift zero = refl
-  backwards-shift (suc n) = ap (λ (q : Quad). q ∷ backwards (k ∷ a ∷ b ∷ c ∷ xs) (suc n)) (quad-shift n) ∙ ap (λ (l : List Quad). quadAt xs n ∷ l) (backwards-shift n)
+  backwards-shift (suc n) =
+      ap (λ (q : Quad). q ∷ backwards (k ∷ a ∷ b ∷ c ∷ xs) (suc n)) (quad-shift n) ∙ ap (λ (l : List Quad). quadAt xs n ∷ l) (backwards-shift n)
 
 pub latest-first : (xs : List ℕ) (n : ℕ) → length xs ≡ n * 4 → latestFirst xs ≡ backwards xs n
 unfolding backwards
@@ -152,17 +153,21 @@ module _ {d : Device} {xs : List ℕ} {t : Ends} {left : ℕ} (running : Running
           same = next ∙ back-met d (g .read) (quadAt xs n) (backwards xs n) (v .event) undecided (v .is);
         }
 
-  answered : backOf d [] (latestFirst xs) ≡ answersOf d (g .read) → record { code = 0; pulled = pulledBy d t; read = length xs / 4 - left } ≡ backOf d [] (latestFirst xs)
+  -- what the loop returns at its end
+  abbrev ended : Soaked
+  ended = record { code = 0; pulled = pulledBy d t; read = length xs / 4 - left }
+
+  answered : backOf d [] (latestFirst xs) ≡ answersOf d (g .read) → ended ≡ backOf d [] (latestFirst xs)
   answered p =
       let count : length xs / 4 - left ≡ length (g .read) = omega (arith, g .counted) in
       rw (g .table, pulled-is d running (g .read) (g .all), count) (sym p)
 
-  pub finished : (ltb 0 left && not (decidedBy t)) ≡ false → record { code = 0; pulled = pulledBy d t; read = length xs / 4 - left } ≡ backOf d [] (latestFirst xs)
+  pub finished : (ltb 0 left && not (decidedBy t)) ≡ false → ended ≡ backOf d [] (latestFirst xs)
   unfolding backwards
   finished f = by-left left refl (decidedBy t) refl f
     where
       by-left : (n : ℕ) → left ≡ n → (b : Bool) → decidedBy t ≡ b → (ltb 0 n && not b) ≡ false
-          → record { code = 0; pulled = pulledBy d t; read = length xs / 4 - left } ≡ backOf d [] (latestFirst xs)
+          → ended ≡ backOf d [] (latestFirst xs)
       by-left zero e b p f = answered (g .same ∙ ap (λ (n : ℕ). backOf d (g .read) (backwards xs n)) e ∙ back-none d (g .read))
       by-left (suc n) e true p f = answered (g .same ∙ back-decided d (g .read) (backwards xs left) (sym decided-now ∙ p))
       by-left (suc n) e false p f = clash (sym f ∙ rw (lt-ltb 0 (suc n) (omega arith)))

@@ -11,7 +11,7 @@ use lib.IntN.{ℤ}
 use lib.Dec.{eqb}
 use lib.ListN.{getD}
 use borrow.Author.Tests.{le-leb, leb-true}
-use Rattle.laws.proofs.Choices.{clash, cond-ind, and-left, and-right}
+use Rattle.laws.proofs.Choices.{clash, cond-ind, by-test, and-left, and-right}
 use Rattle.temperature.specs.declared.Reading.{Reading}
 use Rattle.temperature.specs.Temperature.{openReading}
 use Rattle.conversion.specs.declared.Sensed.{Sensed}
@@ -76,6 +76,8 @@ pub record Converts (e : Event) : Type 0 where
   pub local : ℕ
   pub remote : List ℕ → ℤ
   pub diodeOpen : Bool
+  pub own : secondOf e ≡ false
+  pub operands : operandsOf e ≡ true
   pub does : (d : Device) → Running d → stepOf d e .device ≡ convertedOf d local (remote (d .settings)) diodeOpen
 
 abbrev pub AllConvert : List Event → Type 0
@@ -123,6 +125,8 @@ converts q e p =
       local = q .a;
       remote = λ (s : List ℕ). remoteOf s (q .kind) (q .b) (q .c);
       diodeOpen = eqb (q .kind) 0x06;
+      own = by-test (secondOf e) (λ s. absurd (omega (arith, told .count s))) (λ s. s);
+      operands = told .operands;
       does = does-by e (q .kind) (q .a) (q .b) (q .c) (told .bytes) (read .0) (told .operands);
     }
 

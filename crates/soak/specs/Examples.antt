@@ -1,5 +1,5 @@
--- Worked soaks, on both sides of each line that request f draws. Variant 1 with remote T_CRIT 85, and the other limits as each table says; local T_CRIT 85 and
--- hysteresis 10 are as at power-on, so that a latch sets above 85 and clears below 75.
+-- Worked soaks, on both sides of each line that request f draws, and of those of P1 to P4 and P8 that it stands on. Where nothing else is said: variant 1,
+-- remote T_CRIT 85, and, as at power-on, local T_CRIT 85 and hysteresis 10, so that a latch sets above 85 and clears below 75.
 -- Assumes nothing.
 use Prim.Native.Nat.{ℕ}
 use mathlib.Core.Path.{_≡_, refl}
@@ -9,7 +9,7 @@ use Rattle.registers.specs.Page.{changedOf}
 use Rattle.conversion.specs.Channels.{Channel, localChannel, remoteChannel}
 use Rattle.device.specs.declared.Device.{Device}
 use Rattle.device.specs.declared.Event.{Event}
-use Rattle.device.specs.declared.Event.the-variants.{Write, Convert}
+use Rattle.device.specs.declared.Event.the-variants.{Write, Read, Send, Receive, Convert}
 use Rattle.device.specs.Bus.{setUpOf, poweredOf, zeroDevice}
 use Rattle.device.specs.Run.{afterOf}
 use Rattle.soak.specs.declared.Soaked.{Soaked}
@@ -18,7 +18,8 @@ use Rattle.soak.specs.Opened.{soakOpened}
 
 -- ---- devices
 
--- after these writes, register and value; the first three leave T_CRIT as the only remote limit that a reading can be out of
+-- after these writes, register and value. The first three leave the remote channel no limit that matters but T_CRIT: nothing is below -128, and what is above
+-- 127 is above 85
 abbrev set : List (ℕ × ℕ) → Device
 set writes = afterOf (poweredOf 1) (map (λ (w : ℕ × ℕ). Write 0x4C (w .0) (w .1)) ((0x19, 85) ∷ (0x0D, 127) ∷ (0x0E, 0x80) ∷ writes))
 
@@ -39,18 +40,25 @@ highLimit = set ((0x09, 0x01) ∷ (0x0D, 76) ∷ [])
 
 -- ---- records
 
--- a conversion that read these whole degrees
-abbrev read : ℕ → ℕ → List ℕ
-read local remote = 0x05 ∷ local ∷ remote ∷ 0x00 ∷ []
+-- a conversion of these bytes, and one of whole degrees
+abbrev sampled : ℕ → ℕ → ℕ → List ℕ
+sampled local high low = 0x05 ∷ local ∷ high ∷ low ∷ []
+
+abbrev converted : ℕ → ℕ → List ℕ
+converted local remote = sampled local remote 0x00
+
+-- with the diode open
+abbrev opened : List ℕ
+opened = 0x06 ∷ 25 ∷ 0x00 ∷ 0x00 ∷ []
 
 -- the remote channel alone speaks: 25 degrees clear the local latch
 abbrev remotes : List ℕ → List ℕ
 remotes [] = []
-remotes (t ∷ ts) = read 25 t ++ remotes ts
+remotes (t ∷ ts) = converted 25 t ++ remotes ts
 
--- a record that is refused as soon as it is read
-abbrev unread : List ℕ
-unread = 0xFF ∷ 0xFF ∷ 0xFF ∷ 0xFF ∷ []
+-- a record that is refused if it is read
+abbrev bad : List ℕ
+bad = 0xFF ∷ 0xFF ∷ 0xFF ∷ 0xFF ∷ []
 
 -- ---- tables
 
@@ -68,41 +76,84 @@ soaks rows = map (λ (r : Row). soakOf (r .device) (r .records)) rows
 abbrev told : List Row → List Soaked
 told rows = map (λ (r : Row). r .soaked) rows
 
--- ---- decided: an unread record in front is met exactly if a channel is not decided behind it
+-- ---- decided: a bad record in front is read exactly if a channel is not decided by the later ones
 
 abbrev pub withoutQueue : List Row
 withoutQueue =
-    -- 86 sets, and 85 does not; 74.875 clears, and 75 does not
-    row plain (unread ++ remotes (86 ∷ [])) 0 true 1 ∷
-    row plain (unread ++ remotes (85 ∷ [])) 3 false 2 ∷
-    row plain (unread ++ (0x05 ∷ 25 ∷ 74 ∷ 0xE0 ∷ [])) 0 false 1 ∷
-    row plain (unread ++ remotes (75 ∷ [])) 3 false 2 ∷
-    -- an open diode reads 127
-    row plain (unread ++ (0x06 ∷ 25 ∷ 0x00 ∷ 0x00 ∷ [])) 0 true 1 ∷
+    -- remote: 85.125 sets, and 85 does not; 74.875 clears, and 75 does not
+    row plain (bad ++ sampled 25 85 0x20) 0 true 1 ∷
+    row plain (bad ++ sampled 25 85 0x00) 3 false 2 ∷
+    row plain (bad ++ sampled 25 74 0xE0) 0 false 1 ∷
+    row plain (bad ++ sampled 25 75 0x00) 3 false 2 ∷
+    -- local: 86 sets, and 85 does not; 74 clears, and 75 does not
+    row plain (bad ++ converted 86 25) 0 true 1 ∷
+    row plain (bad ++ converted 85 25) 3 false 2 ∷
+    row plain (bad ++ converted 74 25) 0 false 1 ∷
+    row plain (bad ++ converted 75 25) 3 false 2 ∷
+    -- variant 3 has a local T_CRIT of 105
+    row (poweredOf 3) (bad ++ converted 106 25) 0 true 1 ∷
+    row (poweredOf 3) (bad ++ converted 105 25) 3 false 2 ∷
     -- one channel is not enough, be it the remote one or the local one
-    row plain (unread ++ read 80 86) 3 false 2 ∷
-    row plain (unread ++ read 86 80) 3 false 2 ∷
-    row plain (unread ++ read 86 25 ++ read 80 86) 0 true 2 ∷
-    row plain (unread ++ read 25 86 ++ read 86 80) 0 true 2 ∷
-    row plain (unread ++ read 25 25 ++ read 80 80) 0 false 2 ∷
+    row plain (bad ++ converted 80 86) 3 false 2 ∷
+    row plain (bad ++ converted 86 80) 3 false 2 ∷
+    row plain (bad ++ converted 86 25 ++ converted 80 86) 0 true 2 ∷
+    row plain (bad ++ converted 25 86 ++ converted 86 80) 0 true 2 ∷
+    row plain (bad ++ converted 25 25 ++ converted 80 80) 0 false 2 ∷
     []
 
 pub without-queue : soaks withoutQueue ≡ told withoutQueue
 unfolding soakOpened
 without-queue = refl
 
+-- P1, P2 and P8: two's complement, offset, open diode, hysteresis
+abbrev pub readings : List Row
+readings =
+    -- F0h is -16, on either channel
+    row plain (bad ++ converted 0xF0 0xF0) 0 false 1 ∷
+    -- T_CRIT -10: -9 sets, -10 does not; -20.125 clears, -20 does not
+    row (set ((0x19, 0xF6) ∷ [])) (bad ++ sampled 25 0xF7 0x00) 0 true 1 ∷
+    row (set ((0x19, 0xF6) ∷ [])) (bad ++ sampled 25 0xF6 0x00) 3 false 2 ∷
+    row (set ((0x19, 0xF6) ∷ [])) (bad ++ sampled 25 0xEB 0xE0) 0 false 1 ∷
+    row (set ((0x19, 0xF6) ∷ [])) (bad ++ sampled 25 0xEC 0x00) 3 false 2 ∷
+    -- T_CRIT -128, hysteresis 1: no reading clears
+    row (set ((0x19, 0x80) ∷ (0x21, 1) ∷ [])) (bad ++ sampled 25 0x80 0x00) 3 false 2 ∷
+    row (set ((0x19, 0x80) ∷ (0x21, 1) ∷ [])) (bad ++ sampled 25 0x80 0x20) 0 true 1 ∷
+    -- hysteresis 0 and 31
+    row (set ((0x21, 0) ∷ [])) (bad ++ sampled 25 84 0xE0) 0 false 1 ∷
+    row (set ((0x21, 0) ∷ [])) (bad ++ sampled 25 85 0x00) 3 false 2 ∷
+    row (set ((0x21, 31) ∷ [])) (bad ++ sampled 25 53 0xE0) 0 false 1 ∷
+    row (set ((0x21, 31) ∷ [])) (bad ++ sampled 25 54 0x00) 3 false 2 ∷
+    -- offset 1 and offset an eighth; sums held at both ends
+    row (set ((0x11, 1) ∷ [])) (bad ++ remotes (85 ∷ [])) 0 true 1 ∷
+    row (set ((0x11, 1) ∷ [])) (bad ++ remotes (84 ∷ [])) 3 false 2 ∷
+    row (set ((0x12, 0x20) ∷ [])) (bad ++ remotes (85 ∷ [])) 0 true 1 ∷
+    row (set ((0x11, 127) ∷ [])) (bad ++ remotes (127 ∷ [])) 0 true 1 ∷
+    row (set ((0x19, 0xF6) ∷ (0x11, 0x80) ∷ [])) (bad ++ remotes (0x80 ∷ [])) 0 false 1 ∷
+    -- an open diode reads 127 with no offset
+    row plain (bad ++ opened) 0 true 1 ∷
+    row (set ((0x19, 127) ∷ (0x11, 5) ∷ [])) (bad ++ opened) 3 false 2 ∷
+    []
+
+pub of-readings : soaks readings ≡ told readings
+unfolding soakOpened
+of-readings = refl
+
 abbrev pub withQueue : List Row
 withQueue =
     -- one and two above T_CRIT wait; the third does not
-    row queue (unread ++ remotes (86 ∷ [])) 3 false 2 ∷
-    row queue (unread ++ remotes (86 ∷ 86 ∷ [])) 3 false 3 ∷
-    row queue (unread ++ remotes (86 ∷ 86 ∷ 86 ∷ [])) 0 true 3 ∷
+    row queue (bad ++ remotes (86 ∷ [])) 3 false 2 ∷
+    row queue (bad ++ remotes (86 ∷ 86 ∷ [])) 3 false 3 ∷
+    row queue (bad ++ remotes (86 ∷ 86 ∷ 86 ∷ [])) 0 true 3 ∷
+    row queue (bad ++ opened ++ opened) 3 false 3 ∷
+    row queue (bad ++ opened ++ opened ++ opened) 0 true 3 ∷
+    -- the local channel does not wait
+    row queue (bad ++ converted 86 25) 0 true 1 ∷
     -- 84 breaks the row
-    row queue (unread ++ remotes (86 ∷ 84 ∷ 86 ∷ 86 ∷ [])) 3 false 5 ∷
-    -- 70 clears and is no fault, so that what comes behind it is known: two wait, the third sets
-    row queue (unread ++ remotes (70 ∷ 86 ∷ [])) 0 false 2 ∷
-    row queue (unread ++ remotes (70 ∷ 86 ∷ 86 ∷ [])) 0 false 3 ∷
-    row queue (unread ++ remotes (70 ∷ 86 ∷ 86 ∷ 86 ∷ [])) 0 true 3 ∷
+    row queue (bad ++ remotes (86 ∷ 84 ∷ 86 ∷ 86 ∷ [])) 3 false 5 ∷
+    -- 70 clears and is no fault, so that what comes after it is known: two wait, the third sets
+    row queue (bad ++ remotes (70 ∷ 86 ∷ [])) 0 false 2 ∷
+    row queue (bad ++ remotes (70 ∷ 86 ∷ 86 ∷ [])) 0 false 3 ∷
+    row queue (bad ++ remotes (70 ∷ 86 ∷ 86 ∷ 86 ∷ [])) 0 true 3 ∷
     []
 
 pub with-queue : soaks withQueue ≡ told withQueue
@@ -111,14 +162,14 @@ with-queue = refl
 
 abbrev pub withLimits : List Row
 withLimits =
-    -- it read below, and yet it is not decided: 70 clears, but counts as a fault, so that the 86 behind it may be the third
-    row lowLimit (unread ++ remotes (70 ∷ 86 ∷ [])) 3 false 3 ∷
-    row lowLimit (unread ++ remotes (80 ∷ 70 ∷ 86 ∷ [])) 0 false 3 ∷
-    row lowLimit (unread ++ remotes (86 ∷ 70 ∷ 86 ∷ [])) 0 true 3 ∷
-    row lowLimit (unread ++ remotes (70 ∷ [])) 0 false 1 ∷
+    -- it read below, and yet it is not decided: 70 clears, but counts as a fault, so that the 86 after it may be the third
+    row lowLimit (bad ++ remotes (70 ∷ 86 ∷ [])) 3 false 3 ∷
+    row lowLimit (bad ++ remotes (80 ∷ 70 ∷ 86 ∷ [])) 0 false 3 ∷
+    row lowLimit (bad ++ remotes (86 ∷ 70 ∷ 86 ∷ [])) 0 true 3 ∷
+    row lowLimit (bad ++ remotes (70 ∷ [])) 0 false 1 ∷
     -- three faults in a row are not enough: none is above T_CRIT
-    row highLimit (unread ++ remotes (78 ∷ 78 ∷ 78 ∷ [])) 3 false 4 ∷
-    row highLimit (unread ++ remotes (78 ∷ 78 ∷ 86 ∷ [])) 0 true 3 ∷
+    row highLimit (bad ++ remotes (78 ∷ 78 ∷ 78 ∷ [])) 3 false 4 ∷
+    row highLimit (bad ++ remotes (78 ∷ 78 ∷ 86 ∷ [])) 0 true 3 ∷
     []
 
 pub with-limits : soaks withLimits ≡ told withLimits
@@ -127,18 +178,29 @@ with-limits = refl
 
 -- ---- the start reached: the given latches and fault count speak
 
-abbrev cold : Event
-cold = Convert 25 25 0
-
+-- the remote latch set, and the local one
 abbrev hot : Event
 hot = Convert 25 86 0
 
+abbrev hotHere : Event
+hotHere = Convert 86 25 0
+
 abbrev pub toTheStart : List Row
 toTheStart =
+    -- an empty stretch answers from the state given, masks and all
     row plain [] 0 false 0 ∷
     row (afterOf plain (hot ∷ [])) [] 0 true 0 ∷
+    row (afterOf plain (hotHere ∷ [])) [] 0 true 0 ∷
+    row (afterOf (set ((0x09, 0x10) ∷ [])) (hot ∷ [])) [] 0 false 0 ∷
+    row (afterOf (set ((0x09, 0x04) ∷ [])) (hotHere ∷ [])) [] 0 false 0 ∷
+    row (afterOf plain (hot ∷ Read 0x4C 0x01 ∷ Send 0x4C 0x02 ∷ Receive 0x4C ∷ [])) [] 0 true 0 ∷
+    -- what holds leaves them as they are, and what clears does not
     row plain (remotes (80 ∷ 80 ∷ [])) 0 false 2 ∷
     row (afterOf plain (hot ∷ [])) (remotes (80 ∷ 80 ∷ [])) 0 true 2 ∷
+    row (afterOf plain (hot ∷ [])) (remotes (70 ∷ [])) 0 false 1 ∷
+    row plain (converted 80 25) 0 false 1 ∷
+    row (afterOf plain (hotHere ∷ [])) (converted 80 25) 0 true 1 ∷
+    row (afterOf plain (hotHere ∷ [])) (converted 70 25) 0 false 1 ∷
     -- the fault count carried in: the third, and the second
     row (afterOf queue (hot ∷ hot ∷ [])) (remotes (86 ∷ [])) 0 true 1 ∷
     row (afterOf queue (hot ∷ [])) (remotes (86 ∷ [])) 0 false 1 ∷
@@ -153,12 +215,18 @@ to-the-start = refl
 
 abbrev pub withMasks : List Row
 withMasks =
-    row (set ((0x09, 0x14) ∷ [])) (unread ++ read 86 86) 0 false 1 ∷
-    row (set ((0x09, 0x14) ∷ [])) (unread ++ read 86 80) 3 false 2 ∷
-    row (set ((0x09, 0x10) ∷ [])) (unread ++ read 86 86) 0 true 1 ∷
-    row (set ((0x09, 0x04) ∷ [])) (unread ++ read 86 25) 0 false 1 ∷
-    -- the pin is sure, the masked channel is not
-    row (set ((0x09, 0x10) ∷ [])) (unread ++ read 86 80) 3 false 2 ∷
+    row (set ((0x09, 0x14) ∷ [])) (bad ++ converted 86 86) 0 false 1 ∷
+    row (set ((0x09, 0x10) ∷ [])) (bad ++ converted 86 86) 0 true 1 ∷
+    row (set ((0x09, 0x10) ∷ [])) (bad ++ converted 25 86) 0 false 1 ∷
+    row (set ((0x09, 0x04) ∷ [])) (bad ++ converted 86 25) 0 false 1 ∷
+    row (set ((0x09, 0x04) ∷ [])) (bad ++ converted 25 86) 0 true 1 ∷
+    -- the pin is sure, the masked channel is not decided
+    row (set ((0x09, 0x10) ∷ [])) (bad ++ converted 86 80) 3 false 2 ∷
+    row (set ((0x09, 0x04) ∷ [])) (bad ++ converted 80 86) 3 false 2 ∷
+    row (set ((0x09, 0x14) ∷ [])) (bad ++ converted 86 80) 3 false 2 ∷
+    -- the ALERT mask and comparator mode do not matter
+    row (set ((0x09, 0x80) ∷ [])) (bad ++ converted 86 86) 0 true 1 ∷
+    row (set ((0xBF, 0x01) ∷ [])) (bad ++ converted 86 86) 0 true 1 ∷
     []
 
 pub with-masks : soaks withMasks ≡ told withMasks
@@ -167,61 +235,75 @@ with-masks = refl
 
 -- ---- refusals
 
--- no variant, in standby or not; out of its ranges, in standby or not; standby alone
 abbrev noVariantInStandby : Device
 noVariantInStandby = setUpOf zeroDevice 0 false (changedOf (zeroDevice .settings) 0x03 0x40)
 
 abbrev standby : Device
 standby = set ((0x09, 0x40) ∷ [])
 
+-- out of its ranges: a fault count of 4; a one-shot pending in run mode
 abbrev fourFaults : Device → Device
 fourFaults d = supposing d 4 false false
+
+abbrev pendingInRunMode : Device
+pendingInRunMode = setUpOf plain 0 true (plain .settings)
 
 abbrev pub refusals : List Row
 refusals =
     -- 8 before 10 before 4
     row zeroDevice [] 8 false 0 ∷
+    row (poweredOf 4) [] 8 false 0 ∷
     row noVariantInStandby (0x05 ∷ []) 8 false 0 ∷
     row (fourFaults plain) (remotes (86 ∷ [])) 8 false 0 ∷
     row (fourFaults standby) (0x05 ∷ []) 8 false 0 ∷
+    row pendingInRunMode (remotes (86 ∷ [])) 8 false 0 ∷
     row standby [] 10 false 0 ∷
     row standby (0x05 ∷ []) 10 false 0 ∷
-    row standby unread 10 false 0 ∷
+    row standby bad 10 false 0 ∷
+    row (afterOf standby (Write 0x4C 0x0F 0 ∷ [])) (remotes (86 ∷ [])) 10 false 0 ∷
     -- 4 for the length before any record is judged
     row plain (0xFF ∷ []) 4 false 0 ∷
+    row plain (0xFF ∷ 0xFF ∷ []) 4 false 0 ∷
     row plain (0x00 ∷ remotes (86 ∷ [])) 4 false 0 ∷
+    row plain (remotes (86 ∷ []) ++ (0xFF ∷ 0xFF ∷ [])) 4 false 0 ∷
     row plain (remotes (86 ∷ []) ++ (0xFF ∷ 0xFF ∷ 0xFF ∷ [])) 4 false 0 ∷
     -- 3 for another kind, whatever its operands
     row plain (0x00 ∷ 0x00 ∷ 0x00 ∷ 0x00 ∷ []) 3 false 1 ∷
-    row plain (0x04 ∷ 0x0C ∷ 0x00 ∷ 0x00 ∷ []) 3 false 1 ∷
     row plain (0x01 ∷ 0x80 ∷ 0x00 ∷ 0x00 ∷ []) 3 false 1 ∷
+    row plain (0x02 ∷ 0x4C ∷ 0x00 ∷ 0x00 ∷ []) 3 false 1 ∷
+    row plain (0x03 ∷ 0x4C ∷ 0x00 ∷ 0x01 ∷ []) 3 false 1 ∷
+    row plain (0x04 ∷ 0x0C ∷ 0x00 ∷ 0x00 ∷ []) 3 false 1 ∷
     row plain (0x07 ∷ 0x00 ∷ 0x00 ∷ 0x00 ∷ []) 3 false 1 ∷
     row plain (0x07 ∷ 0x00 ∷ 0x00 ∷ 0x01 ∷ []) 3 false 1 ∷
     row plain (0x08 ∷ 25 ∷ 86 ∷ 0x00 ∷ []) 3 false 1 ∷
+    row plain (0x08 ∷ 25 ∷ 86 ∷ 0x1F ∷ []) 3 false 1 ∷
     row plain (0x09 ∷ 25 ∷ 0x00 ∷ 0x00 ∷ []) 3 false 1 ∷
     row plain (0x09 ∷ 25 ∷ 0x01 ∷ 0x00 ∷ []) 3 false 1 ∷
+    row plain (0x0A ∷ 25 ∷ 0x00 ∷ 0x00 ∷ []) 3 false 1 ∷
     -- else 4
     row plain (0x05 ∷ 25 ∷ 86 ∷ 0x1F ∷ []) 4 false 1 ∷
     row plain (0x06 ∷ 25 ∷ 0x01 ∷ 0x00 ∷ []) 4 false 1 ∷
     row plain (0x06 ∷ 25 ∷ 0x00 ∷ 0x20 ∷ []) 4 false 1 ∷
     -- the first one met from the end, and only records read
-    row plain (unread ++ (0x05 ∷ 25 ∷ 86 ∷ 0x01 ∷ [])) 4 false 1 ∷
-    row plain ((0x05 ∷ 25 ∷ 86 ∷ 0x01 ∷ []) ++ unread) 3 false 1 ∷
-    row plain ((0x05 ∷ 25 ∷ 86 ∷ 0x01 ∷ []) ++ remotes (80 ∷ 80 ∷ [])) 4 false 3 ∷
-    row plain ((0x05 ∷ 25 ∷ 86 ∷ 0x01 ∷ []) ++ remotes (86 ∷ 80 ∷ [])) 0 true 2 ∷
+    row plain (bad ++ sampled 25 86 0x01) 4 false 1 ∷
+    row plain (sampled 25 86 0x01 ++ bad) 3 false 1 ∷
+    row plain (sampled 25 86 0x01 ++ remotes (80 ∷ 80 ∷ [])) 4 false 3 ∷
+    row plain (sampled 25 86 0x01 ++ remotes (86 ∷ 80 ∷ [])) 0 true 2 ∷
+    -- a pin that is sure tells nothing on a refusal
+    row (afterOf plain (hot ∷ [])) (bad ++ converted 86 80) 3 false 2 ∷
     []
 
 pub refused : soaks refusals ≡ told refusals
 unfolding soakOpened
 refused = refl
 
--- ---- which channel is decided, by so many conversions
+-- ---- which channel is decided, local and remote, by such conversions
 
 abbrev after : List (ℕ × ℕ) → List Event
-after readings = map (λ (t : ℕ × ℕ). Convert (t .0) (t .1) 0) readings
+after degrees = map (λ (t : ℕ × ℕ). Convert (t .0) (t .1) 0) degrees
 
 abbrev decided : Device → List (ℕ × ℕ) → List Bool
-decided d readings = map (λ (ch : Channel). decidedOf ch d (after readings)) (localChannel ∷ remoteChannel ∷ [])
+decided d degrees = map (λ (ch : Channel). decidedOf ch d (after degrees)) (localChannel ∷ remoteChannel ∷ [])
 
 pub channels :
     decided plain [] ∷ decided plain ((80, 80) ∷ []) ∷ decided plain ((86, 80) ∷ []) ∷ decided plain ((80, 86) ∷ []) ∷ decided plain ((25, 25) ∷ []) ∷

@@ -1,5 +1,5 @@
--- Request f, is T_CRIT_A pulled at the end of a long soak? One device's state in run mode, and a stretch of records of four bytes under its one setup, read from
--- the end backwards only until both channels are decided or the start is reached.
+-- Request f, is T_CRIT_A pulled at the end of a long soak? One device's state in run mode, and a stretch of records of four bytes under its one setup, read
+-- from the end backwards only until both channels are decided or the start is reached.
 -- Assumes nothing.
 use Prim.Native.Nat.{ℕ, _+_, _%_, _≤_}
 use mathlib.Core.Path.{_≡_}
@@ -63,7 +63,7 @@ supposing d faults llatch rlatch =
       settings = d .settings;
     }
 
--- the latch that the records read, the earliest first, give a channel
+-- the latch that the records read, the earliest first, leave a channel
 abbrev pub latchAfter : Channel → Device → List Event → Bool
 latchAfter ch d read = latchAt ch (afterOf d read .sensed)
 
@@ -72,7 +72,8 @@ abbrev pub Decided : Channel → Device → List Event → Type 0
 Decided ch d read =
     (n m : ℕ) → n ≤ 3 → m ≤ 3 → (l r l′ r′ : Bool) → latchAfter ch (supposing d n l r) read ≡ latchAfter ch (supposing d m l′ r′) read
 
--- to be computed: by each earlier fault count, from latches clear and from latches set
+-- the same as a test: by each earlier fault count, from both latches clear and from both set. No channel looks at the other's latch, so that these are all
+-- (soak_laws/proofs/Reading.antt: decided-exactly)
 abbrev pub eachEarlier : (ℕ → Bool → Bool) → List Bool
 eachEarlier f = f 0 false ∷ f 0 true ∷ f 1 false ∷ f 1 true ∷ f 2 false ∷ f 2 true ∷ f 3 false ∷ f 3 true ∷ []
 
@@ -93,16 +94,16 @@ bothDecided d read = decidedOf localChannel d read && decidedOf remoteChannel d 
 abbrev pub refusesOf : ℕ → ℕ → Soaked
 refusesOf code read = record { code = code; pulled = false; read = read }
 
--- T_CRIT_A after the records read, from the state given: the start is reached, or what came before does not matter
+-- T_CRIT_A after the records read, from the state given: either the start is reached, or what came before them does not matter
 abbrev pub answersOf : Device → List Event → Soaked
 answersOf d read = record { code = 0; pulled = tcritOf (afterOf d read); read = length read }
 
--- a valid 05 or 06 is read; any other record is refused, and counted as read
+-- at a valid 05 or 06 the reading goes on; any other record is refused, and counted among those read
 abbrev pub onMet : Record → (Event → Soaked) → ℕ → Soaked
 onMet (Valid e) further read = further e
 onMet (Refused why) further read = refusesOf (codeOf (Refused why)) read
 
--- those before the records read, the latest first: only records actually read are judged
+-- what is read so far, the earliest first, and the records before it, the latest first. Only records actually read are judged
 unfoldable pub backOf : Device → List Event → List Quad → Soaked
 backOf d read [] = answersOf d read
 backOf d read (q ∷ before) =

@@ -1,4 +1,4 @@
-// T_CRIT_A at the end of a soak (request f): a stretch of conversions under one setup, read from the end backwards only as far as it takes.
+// T_CRIT_A at the end of a soak (request f): a stretch of conversions under one setup, read from the end backwards until both channels are decided.
 ghost use mathlib.Core.Path.{_≡_};
 ghost use mathlib.Core.Bool.{_&&_};
 ghost use mathlib.Core.List.{[]};
@@ -229,8 +229,8 @@ fn in_standby(d: Device) -> bool
     d.settings[registers::CONFIGURATION] & bits::STANDBY != 0
 }
 
-// Is T_CRIT_A pulled at the end? 8 for a device out of its ranges or of no variant, 10 in standby, 4 for a length that is no multiple of four, then at the first
-// record met from the end that is no valid 05 or 06, 3 for another kind, else 4.
+// Is T_CRIT_A pulled at the end? 8 for a device out of its ranges or of no variant, 10 in standby, 4 for a length that is no multiple of four, then at the
+// first record met from the end that is no valid 05 or 06, 3 for another kind, else 4.
 #[no_mangle]
 pub extern "C" fn lm89_soak(device: Device, records: &[u8]) -> Soaked
     ensures { λ r. ⌜ r ≡ soakOf device (now (records .entry)) ⌝ }

@@ -1,6 +1,6 @@
--- `decided-exactly`: the test is exact: it says yes exactly if the records read give the same latch for every earlier latch and fault count. `any-alike`: then
--- they give it from every device in run mode under the same settings. `still-decided`: decided stays decided, whatever conversion comes before the records
--- read. `none-decides`: with no record read no channel is decided. `of-both`, `both`: the same of both channels.
+-- Of conversions read: `exactly`, the test says yes exactly if they give the same latch for every earlier latch and fault count. `any-alike`: then they give it
+-- from every device in run mode under the same settings. `none-decides`: with no record read no channel is decided. `of-both`, `both`, `one-open`: the same
+-- of both channels. `pin-any`: then T_CRIT_A is the same from all those devices.
 -- Assumes nothing.
 use Prim.Native.Nat.{ℕ, zero, suc, _≤_}
 use mathlib.Core.Path.{_≡_, refl, sym, _∙_}
@@ -13,12 +13,13 @@ use Rattle.conversion.specs.declared.Sensed.{Sensed}
 use Rattle.conversion.specs.Channels.{Channel, localChannel, remoteChannel, latchAt}
 use Rattle.device.specs.declared.Device.{Device}
 use Rattle.device.specs.declared.Event.{Event}
+use Rattle.device.specs.Pins.{tcritOf}
 use Rattle.device.specs.Ranges.{allTrue}
-use Rattle.device.specs.Step.{stepOf}
+use Rattle.device.specs.Run.{afterOf}
 use Rattle.device.proofs.Tests.{Each, each}
 use Rattle.soak.specs.Soak.{Running, supposing, latchAfter, Decided, eachEarlier, alike, decidedOf, bothDecided}
 use Rattle.soak_laws.specs.Stretch.{BothDecided}
-use Rattle.soak.proofs.Runs.{few-faults, running-supposing, Converts, AllConvert, step-settings, step-running, same-count, alone}
+use Rattle.soak.proofs.Runs.{few-faults, running-supposing, AllConvert, settings-after, same-count, alone}
 
 -- ---- a list of latches, all alike
 
@@ -79,8 +80,10 @@ module _ (ch : Channel) (d : Device) (running : Running d) (read : List Event) (
   pub any-alike : Decided ch d read → (a b : Device) → Running a → Running b → a .settings ≡ d .settings → b .settings ≡ d .settings
       → latchAfter ch a read ≡ latchAfter ch b read
   any-alike p a b r q s t =
+      let n : Sensed = a .sensed in
+      let m : Sensed = b .sensed in
       as-supposed a r s
-      ∙ p (a .sensed .faults) (b .sensed .faults) (few-faults a r) (few-faults b q) (a .sensed .llatch) (a .sensed .rlatch) (b .sensed .llatch) (b .sensed .rlatch)
+      ∙ p (n .faults) (m .faults) (few-faults a r) (few-faults b q) (n .llatch) (n .rlatch) (m .llatch) (m .rlatch)
       ∙ sym (as-supposed b q t)
 
   -- the channel's own latch speaks, the other one does not
@@ -123,15 +126,8 @@ module _ (ch : Channel) (d : Device) (running : Running d) (read : List Event) (
       q : (n : ℕ) → n ≤ 3 → (o : Bool) → latchAfter ch (supposing d n o o) read ≡ latchAfter ch (supposing d 0 false false) read
       q n h o = p n 0 h (omega arith) o o false false
 
-  pub decided-exactly : (decidedOf ch d read ≡ true) ↔ Decided ch d read
-  decided-exactly = (found, finds)
-
-  pub still-decided : (e : Event) → Converts e → Decided ch d read → Decided ch d (e ∷ read)
-  still-decided e c p n m h k l r l′ r′ =
-      let a = running-supposing d running n h l r in
-      let b = running-supposing d running m k l′ r′ in
-      any-alike p (stepOf (supposing d n l r) e .device) (stepOf (supposing d m l′ r′) e .device) (step-running e c (supposing d n l r) a)
-      (step-running e c (supposing d m l′ r′) b) (step-settings e c (supposing d n l r) a) (step-settings e c (supposing d m l′ r′) b)
+  pub exactly : (decidedOf ch d read ≡ true) ↔ Decided ch d read
+  exactly = (found, finds)
 
 pub none-decides : (ch : Channel) (d : Device) → Decided ch d [] → ⊥
 none-decides localChannel d p = clash (p 0 0 (omega arith) (omega arith) false false true true)
@@ -144,8 +140,24 @@ module _ (d : Device) (r : Running d) (read : List Event) (c : AllConvert read) 
   of-both y = record { each = λ (ch : Channel). by-channel ch }
     where
       by-channel : (ch : Channel) → Decided ch d read
-      by-channel localChannel = decided-exactly localChannel d r read c .0 (and-left (decidedOf localChannel d read) (decidedOf remoteChannel d read) y)
-      by-channel remoteChannel = decided-exactly remoteChannel d r read c .0 (and-right (decidedOf localChannel d read) (decidedOf remoteChannel d read) y)
+      by-channel localChannel = exactly localChannel d r read c .0 (and-left (decidedOf localChannel d read) (decidedOf remoteChannel d read) y)
+      by-channel remoteChannel = exactly remoteChannel d r read c .0 (and-right (decidedOf localChannel d read) (decidedOf remoteChannel d read) y)
 
   pub both : BothDecided d read → bothDecided d read ≡ true
-  both b = rw (decided-exactly localChannel d r read c .1 (b .each localChannel), decided-exactly remoteChannel d r read c .1 (b .each remoteChannel))
+  both b = rw (exactly localChannel d r read c .1 (b .each localChannel), exactly remoteChannel d r read c .1 (b .each remoteChannel))
+
+  -- where they are not both decided, one of them is not
+  pub one-open : {P : Type 0} → bothDecided d read ≡ false → ((ch : Channel) → (Decided ch d read → ⊥) → P) → P
+  one-open y f =
+      by-test (decidedOf localChannel d read)
+      (λ l. by-test (decidedOf remoteChannel d read) (λ m. clash (sym y ∙ rw (l, m)))
+      (λ m. f remoteChannel (λ p. clash (sym m ∙ exactly remoteChannel d r read c .1 p))))
+      (λ l. f localChannel (λ p. clash (sym l ∙ exactly localChannel d r read c .1 p)))
+
+  -- where they are, T_CRIT_A is the same from every device in run mode under the same settings
+  pub pin-any : BothDecided d read → (a : Device) → Running a → a .settings ≡ d .settings → tcritOf (afterOf d read) ≡ tcritOf (afterOf a read)
+  unfolding tcritOf
+  pin-any b a k s =
+      let local = any-alike localChannel d r read c (b .each localChannel) d a r k refl s in
+      let remote = any-alike remoteChannel d r read c (b .each remoteChannel) d a r k refl s in
+      rw (local, remote, settings-after read c d r, settings-after read c a k, s)

@@ -1,5 +1,6 @@
--- Records that are not read do not matter. `stands`: what a stretch answers stands, whatever whole records come before it, if reading it stops in it.
--- `unread`: two stretches that agree on the records read give the same result, whatever stands before them.
+-- Records that are not read do not matter. `unread`: two stretches that agree on the records read give the same result, whatever whole records stand before
+-- those, of which the first stretch has some. `stands`: a stretch in which the reading stops, for a refusal or since both channels are decided, be it at its
+-- first record, gives the same result with whatever whole records before it.
 -- Assumes nothing.
 use Prim.Native.Nat.{ℕ, _+_, _%_, _≤_, _<_}
 use mathlib.Core.Path.{_≡_, refl, sym, ap, _∙_}
@@ -21,7 +22,7 @@ use Rattle.soak.specs.declared.Soaked.{Soaked}
 use Rattle.soak.specs.Soak.{metOf, latestFirst, bothDecided, backOf, soakOf}
 use Rattle.soak.proofs.Runs.{running}
 use Rattle.soak.proofs.Loop.{back-none, back-decided, back-refused, back-met}
-use Rattle.soak_laws.specs.Stretch.{Whole, AllConversions, eventsOf, Judged, Stops}
+use Rattle.soak_laws.specs.Stretch.{Whole, AllConversions, eventsOf, Readable, Stops}
 use Rattle.soak_laws.specs.Stretch.Stops.{refuses, decides}
 use Rattle.soak_laws.proofs.Decided.{both}
 use Rattle.soak_laws.proofs.Ways.{by-record, valid-code, refusal-code, onto, onto-met, onto-length, onto-convert, latest-joined}
@@ -75,7 +76,8 @@ module _ (d : Device) where
       (halts-or-passes qs read)
 
   -- and so do those behind which nothing more was read, though something was there
-  halts-short : (qs : List Quad) (read : List Event) (q : Quad) (more : List Quad) → backOf d read (qs ++ (q ∷ more)) .read ≤ length read + length qs → Halts read qs
+  halts-short : (qs : List Quad) (read : List Event) (q : Quad) (more : List Quad)
+      → backOf d read (qs ++ (q ∷ more)) .read ≤ length read + length qs → Halts read qs
   halts-short qs read q more h =
       ⊎-elim (λ f. f)
       (λ p.
@@ -94,7 +96,7 @@ module _ (d : Device) where
 
 -- lengths alike, and the same reading where there is one: the same soak
 same-soak : (d : Device) (xs ys : List ℕ) → length xs % 4 ≡ length ys % 4
-    → (Judged d ys → backOf d [] (latestFirst xs) ≡ backOf d [] (latestFirst ys)) → soakOf d xs ≡ soakOf d ys
+    → (Readable d ys → backOf d [] (latestFirst xs) ≡ backOf d [] (latestFirst ys)) → soakOf d xs ≡ soakOf d ys
 unfolding soakOf
 same-soak d xs ys e back =
     by-test (variantOf (d .variant) && rangedOf d)
@@ -115,14 +117,15 @@ module _ (d : Device) (before tail : List ℕ) (w : Whole before) where
   pub stands : Stops d tail → soakOf d (before ++ tail) ≡ soakOf d tail
   stands (refuses z) =
       same-soak d (before ++ tail) tail same-length
-      (λ judged. ap (backOf d []) (latest-joined before tail w)
-      ∙ halts-refused d (latestFirst tail) [] (λ c. z (ap (λ (r : Soaked). r .code) (reads-back d tail (judged .running) (judged .whole)) ∙ c)) (latestFirst before))
+      (λ readable.
+      let read = ap (λ (r : Soaked). r .code) (reads-back d tail (readable .running) (readable .whole)) in
+      ap (backOf d []) (latest-joined before tail w) ∙ halts-refused d (latestFirst tail) [] (λ c. z (read ∙ c)) (latestFirst before))
   stands (decides all b) =
       same-soak d (before ++ tail) tail same-length
-      (λ judged.
+      (λ readable.
       let back = all-latest tail all in
       let same = whole-events tail all in
-      let y = both d (judged .running) (eventsOf tail) (rw (← same) (onto-convert (latestFirst tail) back [] tt)) b in
+      let y = both d (readable .running) (eventsOf tail) (rw (← same) (onto-convert (latestFirst tail) back [] tt)) b in
       ap (backOf d []) (latest-joined before tail w)
       ∙ halts-decided d (latestFirst tail) [] (ap (bothDecided d) same ∙ y) (latestFirst before))
 
@@ -138,8 +141,8 @@ pub unread : (d : Device) (before other tail : List ℕ) → Whole before → Wh
     → soakOf d (other ++ tail) ≡ soakOf d (before ++ tail)
 unread d before other tail w v h short =
     same-soak d (other ++ tail) (before ++ tail) (same-length d other tail v ∙ sym (same-length d before tail w))
-    (λ judged.
-    let read = reads-back d (before ++ tail) (judged .running) (judged .whole) in
+    (λ readable.
+    let read = reads-back d (before ++ tail) (readable .running) (readable .whole) in
     let few = rw (ap (λ (r : Soaked). r .read) read, latest-joined before tail w) at short in
     by-front (latestFirst before) refl few)
   where
@@ -148,4 +151,5 @@ unread d before other tail w v h short =
     by-front [] e few = absurd (no-records before w h (ap length e))
     by-front (q ∷ qs) e few =
         let f = halts-short d (latestFirst tail) [] q qs (omega (arith, rw e at few, length-reverse (quads tail))) in
-        ap (backOf d []) (latest-joined other tail v) ∙ f (latestFirst other) ∙ sym (f (latestFirst before)) ∙ sym (ap (backOf d []) (latest-joined before tail w))
+        ap (backOf d []) (latest-joined other tail v) ∙ f (latestFirst other) ∙ sym (f (latestFirst before))
+        ∙ sym (ap (backOf d []) (latest-joined before tail w))

@@ -1,6 +1,6 @@
--- Request f: the words in which its sentences are stated. A stretch's records, those read, and which code is given when.
+-- Request f: the words in which its sentences are stated. A stretch's records, those read, what they decide, and which code is given when.
 -- Assumes nothing.
-use Prim.Native.Nat.{ℕ, suc, _%_}
+use Prim.Native.Nat.{ℕ, suc, _%_, _≤_}
 use mathlib.Core.Path.{_≡_}
 use mathlib.Core.Bool.{true, false, _&&_}
 use mathlib.Core.List.{List, [], _∷_, reverse}
@@ -10,6 +10,7 @@ use Rattle.device.specs.declared.Device.{Device}
 use Rattle.device.specs.declared.Event.{Event}
 use Rattle.device.specs.Bus.{standbyOf}
 use Rattle.device.specs.Ranges.{variantOf, rangedOf}
+use Rattle.device.specs.Run.{Reply}
 use Rattle.record.specs.declared.Record.the-variants.{Refused}
 use Rattle.record.specs.declared.Refusal.{Refusal}
 use Rattle.record.specs.declared.Refusal.the-variants.{Kind, Operand}
@@ -28,29 +29,56 @@ abbrev pub AllConversions : List Quad → Type 0
 AllConversions [] = Unit {0}
 AllConversions (q ∷ qs) = (codeOf (metOf q) ≡ 0) × AllConversions qs
 
--- the events of the whole stretch, in order
+-- its latest j records, the latest first, and all of them
+abbrev pub latestRecords : ℕ → List ℕ → List Quad
+latestRecords j records = take j (latestFirst records)
+
+-- the events of its latest j records, in order, if each of them is valid
+abbrev pub latest : ℕ → List ℕ → List Event
+latest j records = eventsIn 1 (reverse (latestRecords j records))
+
+-- the events of all its records, in order, if each of them is valid
 abbrev pub eventsOf : List ℕ → List Event
 eventsOf records = eventsIn 1 (quads records)
 
--- the events of its latest j records, in order
-abbrev pub latest : ℕ → List ℕ → List Event
-latest j records = eventsIn 1 (reverse (take j (latestFirst records)))
+-- the first byte of the last of some answers
+abbrev pub lastFirst : List Reply → ℕ
+lastFirst [] = 0
+lastFirst (r ∷ []) = r .first
+lastFirst (r ∷ s ∷ rs) = lastFirst (s ∷ rs)
 
--- both channels are decided by them
+-- ---- what the latest records decide
+
+-- both channels are decided by these events
 pub record BothDecided (d : Device) (read : List Event) : Type 0 where
   pub each : (ch : Channel) → Decided ch d read
 
+-- the latest j records are valid, and decide both channels
+pub record Enough (d : Device) (records : List ℕ) (j : ℕ) : Type 0 where
+  pub conversions : AllConversions (latestRecords j records)
+  pub decided : BothDecided d (latest j records)
+
+-- the latest j records are valid, and do not decide this channel
+pub record TooFew (d : Device) (records : List ℕ) (j : ℕ) : Type 0 where
+  pub conversions : AllConversions (latestRecords j records)
+  pub channel : Channel
+  pub undecided : Decided channel d (latest j records) → ⊥
+
 -- ---- which code is given, and exactly when
 
--- the reading meets this record, behind which so many were read: those are valid 05s and 06s, and do not decide both channels
+-- in its ranges, in run mode, of whole records: no 8, no 10 and no 4 for the length
+pub record Readable (d : Device) (records : List ℕ) : Type 0 where
+  pub running : Running d
+  pub whole : Whole records
+
+-- the reading meets this record: so many later ones are read, and neither they nor fewer of them are enough
 pub record Meets (d : Device) (records : List ℕ) (q : Quad) : Type 0 where
   pub later : ℕ
-  pub before : List Quad
-  pub there : drop later (latestFirst records) ≡ q ∷ before
-  pub conversions : AllConversions (take later (latestFirst records))
-  pub undecided : BothDecided d (latest later records) → ⊥
+  pub earlier : List Quad
+  pub there : drop later (latestFirst records) ≡ q ∷ earlier
+  pub too-few : (j : ℕ) → j ≤ later → TooFew d records j
 
--- the reading ends at a record that it meets and refuses, which is counted as read
+-- the reading ends at a record that it meets and refuses, which is counted among those read
 pub record RefusedAt (d : Device) (records : List ℕ) : Type 0 where
   pub met : Quad
   pub meets : Meets d records met
@@ -58,11 +86,6 @@ pub record RefusedAt (d : Device) (records : List ℕ) : Type 0 where
   pub refusal : metOf met ≡ Refused why
   pub code : soakOf d records .code ≡ codeOf (Refused why)
   pub read : soakOf d records .read ≡ suc (meets .later)
-
--- in its ranges, in run mode, of whole records: no 8, 10 or 4 for the length
-pub record Judged (d : Device) (records : List ℕ) : Type 0 where
-  pub running : Running d
-  pub whole : Whole records
 
 pub data Gives (d : Device) (records : List ℕ) : ℕ → Type 0 where
   -- 8: the state handed in is out of its ranges, or has no variant
@@ -72,15 +95,15 @@ pub data Gives (d : Device) (records : List ℕ) : ℕ → Type 0 where
   -- 4: the length is no multiple of four
   uneven : Running d → (Whole records → ⊥) → Gives d records 4
   -- 3: the first record met that is no valid 05 or 06 is of another kind
-  kind : Judged d records → (q : Quad) → Meets d records q → metOf q ≡ Refused Kind → Gives d records 3
+  kind : Readable d records → (q : Quad) → Meets d records q → metOf q ≡ Refused Kind → Gives d records 3
   -- 4: it is a 05 or 06 that breaks the table
-  operand : Judged d records → (q : Quad) → Meets d records q → metOf q ≡ Refused Operand → Gives d records 4
+  operand : Readable d records → (q : Quad) → Meets d records q → metOf q ≡ Refused Operand → Gives d records 4
   -- 0: none of the others applies
-  answered : Judged d records → ((q : Quad) → Meets d records q → codeOf (metOf q) ≡ 0) → Gives d records 0
+  answered : Readable d records → ((q : Quad) → Meets d records q → codeOf (metOf q) ≡ 0) → Gives d records 0
 
 -- ---- what is not read
 
--- reading a stretch that ends so stops in it, whatever stands before: a record of it is refused, or both channels are decided by its records
+-- reading a stretch that ends so stops in it, whatever stands before: it is refused, or its records decide both channels
 pub data Stops (d : Device) (tail : List ℕ) : Type 0 where
   refuses : (soakOf d tail .code ≡ 0 → ⊥) → Stops d tail
   decides : AllConversions (quads tail) → BothDecided d (eventsOf tail) → Stops d tail

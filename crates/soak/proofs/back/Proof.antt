@@ -81,7 +81,8 @@ returns c =
     let g = t .before .before in
     let code = c .before .before .judged .ensures in
     let undecided = sym (t .before .decided .ensures) ∙ on .1 in
-    let refusal = refused (g .before .before .before .before .pre .0) (g .loop .inv) (g .loop .left - 1) (omega (arith, on .0)) undecided (rw code at (c .before .if2 .taken)) in
+    let running = g .before .before .before .before .pre .0 in
+    let refusal = refused running (g .loop .inv) (g .loop .left - 1) (omega (arith, on .0)) undecided (rw code at (c .before .if2 .taken)) in
     rw (c .refused .ensures, code) (sym refusal)
 
 remote-requires : tie.Need-remote-requires Inv-loop μ-loop
@@ -117,7 +118,8 @@ sub-t13 c = omega (arith, c .before .before .before .loop .inv .counted)
 returns-2 : tie.Need-returns-2 Inv-loop μ-loop
 returns-2 c =
     let g = c .before .before .before in
-    rw (c .pulled .ensures) (finished (g .before .before .before .before .pre .0) (g .loop .inv) (rw (c .before .before .decided .ensures) at (c .before .if1 .left)))
+    let stopped = rw (c .before .before .decided .ensures) at (c .before .if1 .left) in
+    rw (c .pulled .ensures) (finished (g .before .before .before .before .pre .0) (g .loop .inv) stopped)
 
 pub back-spec : {M : Type 1} → statement M
 back-spec =
