@@ -2,8 +2,9 @@
  * LM89 temperature sensors, one or two on a bus, modelled register for register.
  *
  * lm89_run takes a whole capture; lm89_fresh, lm89_feed and lm89_finish take one in parts, and a record a call if need be; lm89_power_on and
- * lm89_step keep one device in the caller's memory; lm89_write_header, lm89_write_header_2 and lm89_write_event write a capture. Two devices
- * on one bus stand in a reader, and step by lm89_feed. Link liblm89.a.
+ * lm89_step keep one device in the caller's memory; lm89_write_header, lm89_write_header_2 and lm89_write_event write a capture; lm89_soak tells
+ * T_CRIT_A at the end of a long stretch of conversions from the last of them. Two devices on one bus stand in a reader, and step by lm89_feed.
+ * Link liblm89.a.
  * None of them allocates, keeps anything between calls or touches memory other than what it is lent.
  *
  * What a caller owes, beyond what C asks of every program: slices that are lent to one call do not overlap; a slice whose length is not 0
@@ -28,7 +29,7 @@ extern "C" {
  * lm89_version() / LM89_VERSION_UNIT == LM89_VERSION_MAJOR.
  */
 #define LM89_VERSION_MAJOR 4
-#define LM89_VERSION_MINOR 2
+#define LM89_VERSION_MINOR 3
 #define LM89_VERSION_UNIT 65536u
 
 /* The parts. */
@@ -174,13 +175,14 @@ enum {
     LM89_CODE_DONE = 0,         /* none of the others applies */
     LM89_CODE_DEVICE_COUNT = 1, /* the device count is not 1 or 2 */
     LM89_CODE_VARIANT = 2,      /* a variant is not 1, 2 or 3 */
-    LM89_CODE_KIND = 3,         /* the kind is not 1 to 9, or is 8 or 9 where the device count is 1 or in lm89_step */
-    LM89_CODE_OPERAND = 4,      /* an operand is outside the table of kinds */
+    LM89_CODE_KIND = 3,         /* the kind is not 1 to 9, or is 8 or 9 where the device count is 1 or in lm89_step; in lm89_soak, is not 5 or 6 */
+    LM89_CODE_OPERAND = 4,      /* an operand is outside the table of kinds; in lm89_soak also a length that is no multiple of LM89_RECORD_BYTES */
     LM89_CODE_PAST_END = 5,     /* a byte comes after the last counted record */
     LM89_CODE_CUT_SHORT = 6,    /* the capture ends before its counted end */
     LM89_CODE_NO_ROOM = 7,      /* too little room: for a valid record's answer; in a writer, for what it writes */
     LM89_CODE_RANGE = 8,        /* the device or reader handed in is out of its ranges */
     LM89_CODE_ADDRESS = 9,      /* the two devices have one address */
+    LM89_CODE_STANDBY = 10,     /* the device handed to lm89_soak is in standby */
 };
 
 /*
@@ -272,6 +274,13 @@ typedef struct {
     uint8_t second; /* the byte read, or 0 */
 } lm89_answer;
 
+/* What reading a soak gives. */
+typedef struct {
+    uint8_t code;  /* LM89_CODE_... */
+    bool pulled;   /* T_CRIT_A is pulled at the end of the stretch; false on a code other than 0 */
+    uint64_t read; /* records read, a refused one among them; 0 on LM89_CODE_RANGE, LM89_CODE_STANDBY and a length that is no multiple of LM89_RECORD_BYTES */
+} lm89_soaked;
+
 /* The library's version: LM89_VERSION_UNIT times its major number plus its minor one. */
 uint32_t lm89_version(void);
 
@@ -328,6 +337,24 @@ lm89_answer lm89_step(lm89_device *device, uint8_t kind, uint8_t a, uint8_t b, u
 
 /* A device as after power-on; all zeros if the variant is not 1 to 3. */
 lm89_device lm89_power_on(uint8_t variant);
+
+/*
+ * Is T_CRIT_A pulled at the end of a soak, thousands of conversions of one device under one setup? The device is as it stands before them, in run
+ * mode, which is with LM89_CONFIGURATION_STANDBY clear; records are the conversions, LM89_RECORD_BYTES each, in order, with no header, those of a
+ * second device given as LM89_KIND_CONVERSION and LM89_KIND_OPEN too. They are read from the end backwards, only until both channels are decided or
+ * the start is reached. A channel is decided as soon as the records read leave its latch the same for every earlier latch and fault count; a masked
+ * channel is to be decided too, and a pin that is already sure does not end the reading. The code is
+ *   LM89_CODE_RANGE (8) if the device is out of its ranges or its variant is not 1 to 3 (a device of all zeros too),
+ *   then LM89_CODE_STANDBY (10) if it is in standby,
+ *   then LM89_CODE_OPERAND (4) if length is no multiple of LM89_RECORD_BYTES; up to here no record is read,
+ *   then, at the first record met from the end that is no valid LM89_KIND_CONVERSION or LM89_KIND_OPEN, LM89_CODE_KIND (3) if it is of another kind,
+ *     whatever its operands, LM89_KIND_CONVERSION_2 and LM89_KIND_OPEN_2 too, else LM89_CODE_OPERAND (4); it stands at records + length - 4 * read,
+ *   else LM89_CODE_DONE (0).
+ * Only records that are read are judged: with code 0 those before them may be any bytes. If with code 0 all are valid, `pulled` is true exactly if the
+ * last answer has LM89_ANSWER_TCRIT when lm89_step is called for each record in order; with code 0 and length 0 it is so exactly if the device pulls
+ * T_CRIT_A as it stands. The device is not changed, and nothing is written.
+ */
+lm89_soaked lm89_soak(lm89_device device, const uint8_t *records, size_t length);
 
 /*
  * Writes the header of a capture of one device, LM89_HEADER_BYTES of them, to the front of room: LM89_CODE_VARIANT (2) if the variant is not

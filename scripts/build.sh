@@ -7,7 +7,7 @@ cd "$(dirname "$0")/.."
 source scripts/machine.sh
 
 first_build_takes='about three minutes'
-joined=(bench bench_step bench_feed bench_write bench_version)
+joined=(bench bench_step bench_feed bench_write bench_version soak)
 listing=bench_list
 crates=("${joined[@]}" "$listing")
 archives=target/staticlib

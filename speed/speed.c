@@ -8,10 +8,10 @@
 #include <stdio.h>
 #include <stdlib.h>
 #include <string.h>
-#include <time.h>
 
 #include "lm89.h"
 #include "second.h"
+#include "timing.h"
 
 #define RECORDS 16000000u
 #define ROUNDS 5
@@ -86,13 +86,6 @@ static const measured lines[] = {
     {"two devices, conversions", 2, 0, conversion},
 };
 
-static double nanoseconds(void)
-{
-    struct timespec t;
-    clock_gettime(CLOCK_PROCESS_CPUTIME_ID, &t);
-    return (double)t.tv_sec * 1e9 + (double)t.tv_nsec;
-}
-
 static double once(runner *run, const uint8_t *capture, size_t length, uint8_t *answers)
 {
     double start = nanoseconds();
@@ -102,16 +95,6 @@ static double once(runner *run, const uint8_t *capture, size_t length, uint8_t *
         exit(1);
     }
     return (nanoseconds() - start) / RECORDS;
-}
-
-static void *memory(size_t length)
-{
-    void *bytes = calloc(length, 1);
-    if (bytes == NULL) {
-        fprintf(stderr, "speed: %zu bytes of memory are not to be had\n", length);
-        exit(1);
-    }
-    return bytes;
 }
 
 static size_t length_of(uint32_t records, const measured *line)

@@ -108,6 +108,15 @@ both_served() {
     printf 'c: two ok\n'
 }
 
+# The example of a soak of a day: warm readings decide nothing; three hot ones in a row set the latch, two behind a cold one do not.
+soaked() {
+    printf '%s of 1382400 records read\n' 'warm all day: code 0, T_CRIT_A is let go, 1382400' 'three hot at the end: code 0, T_CRIT_A is pulled, 3' \
+        'cold, then two hot: code 0, T_CRIT_A is let go, 3' >build/counted
+    run build/soaked >build/listed || stop "examples/soak.c failed, see above"
+    same build/counted build/listed "examples/soak.c reads the soak otherwise"
+    printf 'c: soak of a day ok\n'
+}
+
 # What the program listing says where input or output fails; it has no exit status.
 program_says() {
     local said
@@ -130,6 +139,7 @@ is_cpp examples/bench.c
 is_cpp examples/stream.c
 is_cpp examples/pair.c
 is_cpp examples/two.c
+is_cpp examples/soak.c
 printf 'c++: headers ok\n'
 passes layout tests/c/layout.c
 passes run tests/c/run.c
@@ -137,12 +147,15 @@ passes held tests/c/held.c
 passes feed tests/c/feed.c
 passes write tests/c/write.c
 passes both tests/c/both.c
+passes soak tests/c/soak.c
 program list tests/c/list.c
 program stream examples/stream.c
 program pair examples/pair.c
 paired
 program two examples/two.c
 both_served
+program soaked examples/soak.c
+soaked
 for hex in samples/*.hex; do
     sample "$(basename "$hex" .hex)"
 done
