@@ -139,9 +139,9 @@ fn remote_before(s: [u8; 14], t: Ends, remote: i16, faults: u8) -> Made
     ensures { λ r. ⌜ r ≡ remoteBefore s t remote faults ⌝ }
 {
     let out = conversion::compare(remote, conversion::remote_limits(s));
+    let cleared = temperature::cleared(remote, s[registers::REMOTE_CRIT], s[registers::HYSTERESIS]);
     let count = conversion::count(faults, conversion::any(out));
     let v = conversion::shown(conversion::queued(s[registers::CONFIGURATION], count), out);
-    let cleared = temperature::cleared(remote, s[registers::REMOTE_CRIT], s[registers::HYSTERESIS]);
     through(counted(t, count), v.crit, cleared)
 }
 
@@ -235,10 +235,12 @@ fn in_standby(d: Device) -> bool
 pub extern "C" fn lm89_soak(device: Device, records: &[u8]) -> Soaked
     ensures { λ r. ⌜ r ≡ soakOf device (now (records .entry)) ⌝ }
 {
-    if !in_range(device) {
+    let ranged = in_range(device);
+    let asleep = in_standby(device);
+    if !ranged {
         return refused(8, 0);
     }
-    if in_standby(device) {
+    if asleep {
         return refused(STANDBY, 0);
     }
     if records.len() % 4 != 0 {

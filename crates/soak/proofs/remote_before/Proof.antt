@@ -12,6 +12,15 @@ remote-limits-requires c κs = search needs
 compare-requires : tie.Need-compare-requires
 compare-requires c κs = search needs
 
+array-read-cleared : tie.Need-array-read-cleared
+array-read-cleared c = search needs
+
+array-read-cleared-2 : tie.Need-array-read-cleared-2
+array-read-cleared-2 c = search needs
+
+cleared-requires : tie.Need-cleared-requires
+cleared-requires c κs = search needs
+
 any-requires : tie.Need-any-requires
 any-requires c κs = search needs
 
@@ -26,15 +35,6 @@ queued-requires c κs = search needs
 
 shown-requires : tie.Need-shown-requires
 shown-requires c κs = search needs
-
-array-read-cleared : tie.Need-array-read-cleared
-array-read-cleared c = search needs
-
-array-read-cleared-2 : tie.Need-array-read-cleared-2
-array-read-cleared-2 c = search needs
-
-cleared-requires : tie.Need-cleared-requires
-cleared-requires c κs = search needs
 
 counted-requires : tie.Need-counted-requires
 counted-requires c κs = search needs
@@ -54,17 +54,17 @@ returns c =
     let a2 = a3 .before in
     let a1 = a2 .before in
     let s = a1 .before .args .t1 in
-    let queued = rw (← configuration s) at (a5 .queued .ensures) in
-    let cleared = rw (← remote-crit s, ← hysteresis s) at (a7 .cleared .ensures) in
+    let cleared = rw (← remote-crit s, ← hysteresis s) at (a3 .cleared .ensures) in
+    let queued = rw (← configuration s) at (a6 .queued .ensures) in
     let remote = toZ-ofZ (a1 .before .fits .remote) in
     rw (
       c .through .ensures,
       a8 .counted .ensures,
-      cleared,
-      a6 .shown .ensures,
+      a7 .shown .ensures,
       queued,
-      a4 .count .ensures,
-      a3 .any .ensures,
+      a5 .count .ensures,
+      a4 .any .ensures,
+      cleared,
       a2 .compare .ensures,
       a1 .remote-limits .ensures,
       remote,
@@ -76,14 +76,14 @@ remote-before-spec =
     (tie.spec
     remote-limits-requires
     compare-requires
+    array-read-cleared
+    array-read-cleared-2
+    cleared-requires
     any-requires
     count-requires
     array-read-queued
     queued-requires
     shown-requires
-    array-read-cleared
-    array-read-cleared-2
-    cleared-requires
     counted-requires
     through-requires
     returns)
