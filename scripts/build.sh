@@ -6,7 +6,7 @@ set -euo pipefail
 cd "$(dirname "$0")/.."
 source scripts/machine.sh
 
-first_build_takes='about three minutes'
+first_build_takes='about four minutes'
 joined=(bench bench_step bench_feed bench_write bench_version soak)
 listing=bench_list
 crates=("${joined[@]}" "$listing")

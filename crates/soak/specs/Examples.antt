@@ -154,6 +154,10 @@ withQueue =
     row queue (bad ++ remotes (70 ∷ 86 ∷ [])) 0 false 2 ∷
     row queue (bad ++ remotes (70 ∷ 86 ∷ 86 ∷ [])) 0 false 3 ∷
     row queue (bad ++ remotes (70 ∷ 86 ∷ 86 ∷ 86 ∷ [])) 0 true 3 ∷
+    -- three set, and what holds after them does not undo it
+    row queue (bad ++ remotes (86 ∷ 86 ∷ 86 ∷ 80 ∷ [])) 0 true 4 ∷
+    -- the given fault count decides nothing while records before are unread
+    row (afterOf queue (Convert 25 86 0 ∷ Convert 25 86 0 ∷ [])) (bad ++ remotes (86 ∷ [])) 3 false 2 ∷
     []
 
 pub with-queue : soaks withQueue ≡ told withQueue
@@ -261,6 +265,13 @@ refusals =
     row standby (0x05 ∷ []) 10 false 0 ∷
     row standby bad 10 false 0 ∷
     row (afterOf standby (Write 0x4C 0x0F 0 ∷ [])) (remotes (86 ∷ [])) 10 false 0 ∷
+    -- the whole state is asked: a pointer that is no register's, a hysteresis of six bits
+    row (setUpOf plain 0x15 false (plain .settings)) [] 8 false 0 ∷
+    row (setUpOf plain 0 false (changedOf (plain .settings) 0x21 0x20)) [] 8 false 0 ∷
+    -- a given pin tells nothing on a refusal
+    row (supposing plain 4 true true) [] 8 false 0 ∷
+    row (afterOf plain (hot ∷ Write 0x4C 0x09 0x40 ∷ [])) [] 10 false 0 ∷
+    row (afterOf plain (hot ∷ [])) (0x05 ∷ []) 4 false 0 ∷
     -- 4 for the length before any record is judged
     row plain (0xFF ∷ []) 4 false 0 ∷
     row plain (0xFF ∷ 0xFF ∷ []) 4 false 0 ∷
