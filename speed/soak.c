@@ -33,9 +33,9 @@ static void hold(uint8_t *record)
     record[3] = number(8) * 32;
 }
 
-static lm89_soaked soak(const uint8_t *records)
+static lm89_soaked soak(const lm89_device *device, const uint8_t *records)
 {
-    lm89_soaked soaked = lm89_soak(lm89_power_on(LM89_VARIANT_LM89C), records, LENGTH);
+    lm89_soaked soaked = lm89_soak(*device, records, LENGTH);
     if (soaked.code != LM89_CODE_DONE) {
         fprintf(stderr, "soak: refused with %u\n", soaked.code);
         exit(1);
@@ -54,14 +54,14 @@ static double forward(const uint8_t *capture, uint8_t *answers)
     return (nanoseconds() - start) / RECORDS;
 }
 
-static void never_decided(const uint8_t *capture)
+static void never_decided(const lm89_device *device, const uint8_t *capture)
 {
     uint8_t *answers = memory(LENGTH / 2);
     const uint8_t *records = capture + LM89_HEADER_BYTES;
     double back = 1e9, run = 1e9;
     for (int i = 0; i < ROUNDS; i++) {
         double start = nanoseconds();
-        lm89_soaked soaked = soak(records);
+        lm89_soaked soaked = soak(device, records);
         double took = (nanoseconds() - start) / RECORDS;
         double forwards = forward(capture, answers);
         if (soaked.read != RECORDS || soaked.pulled != ((answers[LENGTH / 2 - LM89_ANSWER_BYTES] & LM89_ANSWER_TCRIT) != 0)) {
@@ -75,7 +75,7 @@ static void never_decided(const uint8_t *capture)
     free(answers);
 }
 
-static void ends_hot(uint8_t *records)
+static void ends_hot(const lm89_device *device, uint8_t *records)
 {
     uint8_t *last = records + LENGTH - LM89_RECORD_BYTES;
     uint64_t read = 0;
@@ -85,7 +85,7 @@ static void ends_hot(uint8_t *records)
     for (int i = 0; i < ROUNDS; i++) {
         double start = nanoseconds();
         for (unsigned call = 0; call < CALLS; call++) {
-            read += soak(records).read;
+            read += soak(device, records).read;
         }
         double took = (nanoseconds() - start) / CALLS;
         best = took < best ? took : best;
@@ -95,6 +95,7 @@ static void ends_hot(uint8_t *records)
 
 int main(void)
 {
+    lm89_device device = lm89_power_on(LM89_VARIANT_LM89C);
     uint8_t *capture = memory(LM89_HEADER_BYTES + LENGTH);
     uint8_t *records = capture + LM89_HEADER_BYTES;
     if (lm89_write_header(LM89_VARIANT_LM89C, RECORDS, capture, LM89_HEADER_BYTES) != LM89_CODE_DONE) {
@@ -104,8 +105,8 @@ int main(void)
     for (uint32_t i = 0; i < RECORDS; i++) {
         hold(records + (size_t)i * LM89_RECORD_BYTES);
     }
-    never_decided(capture);
-    ends_hot(records);
+    never_decided(&device, capture);
+    ends_hot(&device, records);
     free(capture);
     return 0;
 }
