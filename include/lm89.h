@@ -348,7 +348,8 @@ lm89_device lm89_power_on(uint8_t variant);
  *   then LM89_CODE_STANDBY (10) if it is in standby,
  *   then LM89_CODE_OPERAND (4) if length is no multiple of LM89_RECORD_BYTES; up to here no record is read,
  *   then, at the first record met from the end that is no valid LM89_KIND_CONVERSION or LM89_KIND_OPEN, LM89_CODE_KIND (3) if it is of another kind,
- *     whatever its operands, LM89_KIND_CONVERSION_2 and LM89_KIND_OPEN_2 too, else LM89_CODE_OPERAND (4); it stands at records + length - 4 * read,
+ *     whatever its operands, LM89_KIND_CONVERSION_2 and LM89_KIND_OPEN_2 too, else LM89_CODE_OPERAND (4); it stands at
+ *     records + length - LM89_RECORD_BYTES * read,
  *   else LM89_CODE_DONE (0).
  * Only records that are read are judged: with code 0 those before them may be any bytes. If with code 0 all are valid, `pulled` is true exactly if the
  * last answer has LM89_ANSWER_TCRIT when lm89_step is called for each record in order; with code 0 and length 0 it is so exactly if the device pulls

@@ -14,16 +14,6 @@
 #define ROUNDS 5
 #define CALLS 1000000u
 
-static uint32_t state = 12345;
-
-static uint8_t number(uint32_t below)
-{
-    state ^= state << 13;
-    state ^= state >> 17;
-    state ^= state << 5;
-    return (uint8_t)(state % below);
-}
-
 /* As at power-on a local latch stays as it is from 75 to 85 degrees, a remote one from 100 to 110. */
 static void hold(uint8_t *record)
 {

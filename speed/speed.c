@@ -23,16 +23,6 @@ static const uint8_t readable[] = {0x00, 0x01, 0x02, 0x03, 0x04, 0x05, 0x06, 0x0
 static const uint8_t writable[] = {0x09, 0x0A, 0x0B, 0x0C, 0x0D, 0x0E, 0x0F, 0x11,
                                    0x12, 0x13, 0x14, 0x19, 0x20, 0x21, 0xBF};
 
-static uint32_t state = 12345;
-
-static uint8_t number(uint32_t below)
-{
-    state ^= state << 13;
-    state ^= state >> 17;
-    state ^= state << 5;
-    return (uint8_t)(state % below);
-}
-
 static void conversion(uint8_t *p, bool second)
 {
     p[0] = second ? LM89_KIND_CONVERSION_2 : LM89_KIND_CONVERSION;

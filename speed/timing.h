@@ -1,7 +1,8 @@
-/* What the programs of speed/ measure with. */
+/* What the programs of speed/ measure with: processor time, memory, and numbers that are the same in every run. */
 #ifndef TIMING_H
 #define TIMING_H
 
+#include <stdint.h>
 #include <stdio.h>
 #include <stdlib.h>
 #include <time.h>
@@ -21,6 +22,16 @@ static void *memory(size_t length)
         exit(1);
     }
     return bytes;
+}
+
+static uint32_t state = 12345;
+
+static uint8_t number(uint32_t below)
+{
+    state ^= state << 13;
+    state ^= state >> 17;
+    state ^= state << 5;
+    return (uint8_t)(state % below);
 }
 
 #endif

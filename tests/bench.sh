@@ -90,31 +90,13 @@ large() {
     done
 }
 
-# The example of a pair of reads with a conversion between: 31 E0 is 399 eighths, 32 00 is 400.
-paired() {
-    printf '%s\n' 'first pair: 31 E0, 399 eighths, 49.875 degrees' 'second pair: 32 00, 400 eighths, 50.000 degrees' \
-        'third pair: FF E0, -1 eighths, -0.125 degrees' >build/counted
-    run build/pair >build/listed || stop "examples/pair.c failed, see above"
-    same build/counted build/listed "examples/pair.c shows another pair"
-    printf 'c: pair ok\n'
-}
-
-# The example of two sensors that both alert: 4C answers before 4D, and each is masked then.
-both_served() {
-    printf '%s\n' 'ALERT is pulled' '4C answers 99, its status is 40; ALERT is pulled' '4D answers 9B, its status is 10; ALERT is let go' \
-        'asked once more: nobody answers' 'both unmasked, after 9 records: ALERT is let go' >build/counted
-    run build/two >build/listed || stop "examples/two.c failed, see above"
-    same build/counted build/listed "examples/two.c serves the two sensors otherwise"
-    printf 'c: two ok\n'
-}
-
-# The example of a soak of a day: warm readings decide nothing; three hot ones in a row set the latch, two behind a cold one do not.
-soaked() {
-    printf '%s of 1382400 records read\n' 'warm all day: code 0, T_CRIT_A is let go, 1382400' 'three hot at the end: code 0, T_CRIT_A is pulled, 3' \
-        'cold, then two hot: code 0, T_CRIT_A is let go, 3' >build/counted
-    run build/soaked >build/listed || stop "examples/soak.c failed, see above"
-    same build/counted build/listed "examples/soak.c reads the soak otherwise"
-    printf 'c: soak of a day ok\n'
+# An example prints what stands on standard input.
+prints() {
+    cat >build/counted
+    program "$1" "examples/$1.c"
+    run "build/$1" >build/listed || stop "examples/$1.c failed, see above"
+    same build/counted build/listed "examples/$1.c prints something else"
+    printf 'example: %s ok\n' "$1"
 }
 
 # What the program listing says where input or output fails; it has no exit status.
@@ -150,12 +132,26 @@ passes both tests/c/both.c
 passes soak tests/c/soak.c
 program list tests/c/list.c
 program stream examples/stream.c
-program pair examples/pair.c
-paired
-program two examples/two.c
-both_served
-program soaked examples/soak.c
-soaked
+# Pairs of reads with a conversion between: 31 E0 is 399 eighths, 32 00 is 400.
+prints pair <<'END'
+first pair: 31 E0, 399 eighths, 49.875 degrees
+second pair: 32 00, 400 eighths, 50.000 degrees
+third pair: FF E0, -1 eighths, -0.125 degrees
+END
+# Two sensors that both alert: 4C answers before 4D, and each is masked then.
+prints two <<'END'
+ALERT is pulled
+4C answers 99, its status is 40; ALERT is pulled
+4D answers 9B, its status is 10; ALERT is let go
+asked once more: nobody answers
+both unmasked, after 9 records: ALERT is let go
+END
+# A day's soak: warm readings decide nothing; three hot ones in a row set the latch, two behind a cold one do not.
+prints soak <<'END'
+warm all day: code 0, T_CRIT_A is let go, 1382400 of 1382400 records read
+three hot at the end: code 0, T_CRIT_A is pulled, 3 of 1382400 records read
+cold, then two hot: code 0, T_CRIT_A is let go, 3 of 1382400 records read
+END
 for hex in samples/*.hex; do
     sample "$(basename "$hex" .hex)"
 done

@@ -7,6 +7,7 @@
  *
  * The same bytes at each run. What it knows of the device serves to aim: it predicts no answer. */
 #include "chance.h"
+#include "dump.h"
 
 #include <stdbool.h>
 #include <stdint.h>
@@ -14,24 +15,7 @@
 #include <stdlib.h>
 #include <string.h>
 
-enum { WRITE = 1, READ, SEND, RECEIVE, CONVERSION, OPEN_DIODE, POWER_ON, CONVERSION_2, OPEN_DIODE_2 };
-enum { SETTINGS = 14, DEVICE_BYTES = 27, RECORD_BYTES = 4, STRETCH_MOST = 1000000 };
-
-/* Places of the settable bytes, by rising write address. */
-enum {
-    CONFIGURATION, RATE, LOCAL_HIGH, LOCAL_LOW, REMOTE_HIGH, REMOTE_LOW, OFFSET, OFFSET_FINE,
-    REMOTE_HIGH_FINE, REMOTE_LOW_FINE, REMOTE_CRIT, LOCAL_CRIT, HYSTERESIS, ALERT_MODE
-};
-/* Places in a device. */
-enum { AT_VARIANT, AT_POINTER, AT_PENDING, AT_STATUS, AT_LOCAL, AT_REMOTE, AT_LIVE = 7, AT_FAULTS, AT_LOCAL_LATCH,
-       AT_REMOTE_LATCH, AT_SETTINGS, AT_LOW = AT_SETTINGS + SETTINGS, AT_LOW_KEPT };
-
-static const uint8_t write_address[SETTINGS] = {
-    0x09, 0x0A, 0x0B, 0x0C, 0x0D, 0x0E, 0x11, 0x12, 0x13, 0x14, 0x19, 0x20, 0x21, 0xBF
-};
-static const uint8_t kept_bits[SETTINGS] = {
-    0xD5, 0xFF, 0xFF, 0xFF, 0xFF, 0xFF, 0xFF, 0xE0, 0xE0, 0xE0, 0xFF, 0xFF, 0x1F, 0x07
-};
+enum { RECORD_BYTES = 4, STRETCH_MOST = 1000000 };
 static const uint8_t pointers[] = { 0x00, 0x01, 0x02, 0x09, 0x0F, 0x10, 0x14, 0x21, 0xBF, 0xFE, 0xFF };
 enum { ALERT_MASK = 0x80, STANDBY = 0x40, REMOTE_MASK = 0x10, LOCAL_MASK = 0x04, FAULT_QUEUE = 0x01 };
 enum { REMOTE_LEAST = -1024, REMOTE_MOST = 1023, OPEN_READING = 1016, LOCAL_LEAST = -128, LOCAL_MOST = 127 };
@@ -109,12 +93,7 @@ static void power_on_device(unsigned variant)
 {
     memset(device, 0, sizeof device);
     device[AT_VARIANT] = (uint8_t)variant;
-    set[RATE] = 8;
-    set[LOCAL_HIGH] = 70;
-    set[REMOTE_HIGH] = 70;
-    set[REMOTE_CRIT] = 110;
-    set[LOCAL_CRIT] = variant == 3 ? 105 : 85;
-    set[HYSTERESIS] = 10;
+    power_on_settings(set, (uint8_t)variant);
 }
 
 /* Any device within its ranges, out of standby. */

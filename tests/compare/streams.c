@@ -11,6 +11,7 @@
  *
  * The same bytes at each run. What it knows of the device serves to aim: it predicts no answer. */
 #include "chance.h"
+#include "dump.h"
 
 #include <stdbool.h>
 #include <stdint.h>
@@ -18,24 +19,11 @@
 #include <stdlib.h>
 #include <string.h>
 
-enum { SETTINGS = 14, DEVICE_BYTES = 27, READER_BYTES = 14 + 1 + 2 * DEVICE_BYTES, RECORD_BYTES = 4 };
+enum { READER_BYTES = 14 + 1 + 2 * DEVICE_BYTES, RECORD_BYTES = 4 };
 enum { HEADER_BYTES = 6, HEADER_2_BYTES = 7 }; /* of one device, of two */
 
-enum { WRITE = 1, READ, SEND, RECEIVE, CONVERSION, OPEN_DIODE, POWER_ON, CONVERSION_2, OPEN_DIODE_2 };
 enum { OF_SECOND = CONVERSION_2 - CONVERSION }; /* from a kind to that of the second device */
 
-/* Places of the settable bytes, by rising write address. */
-enum {
-    CONFIGURATION, RATE, LOCAL_HIGH, LOCAL_LOW, REMOTE_HIGH, REMOTE_LOW, OFFSET, OFFSET_FINE,
-    REMOTE_HIGH_FINE, REMOTE_LOW_FINE, REMOTE_CRIT, LOCAL_CRIT, HYSTERESIS, ALERT_MODE
-};
-
-static const uint8_t write_address[SETTINGS] = {
-    0x09, 0x0A, 0x0B, 0x0C, 0x0D, 0x0E, 0x11, 0x12, 0x13, 0x14, 0x19, 0x20, 0x21, 0xBF
-};
-static const uint8_t kept_bits[SETTINGS] = {
-    0xD5, 0xFF, 0xFF, 0xFF, 0xFF, 0xFF, 0xFF, 0xE0, 0xE0, 0xE0, 0xFF, 0xFF, 0x1F, 0x07
-};
 static const uint8_t readable[] = {
     0x00, 0x01, 0x02, 0x03, 0x04, 0x05, 0x06, 0x07, 0x08, 0x10, 0x11, 0x12, 0x13, 0x14, 0x19, 0x20, 0x21, 0xBF, 0xFE, 0xFF
 };
@@ -49,9 +37,7 @@ enum { ALERT_MASK = 0x80, STANDBY = 0x40, FAULT_QUEUE = 0x01, COMPARATOR = 0x01 
 enum { REMOTE_LEAST = -1024, REMOTE_MOST = 1023 };
 enum { LOW_STEP = 32, LOW_BYTES = 8 }; /* the low bytes of readings: so many, so far apart */
 
-/* Places in a device dump and in a reader dump. */
-enum { AT_VARIANT, AT_POINTER, AT_PENDING, AT_STATUS, AT_LOCAL, AT_REMOTE, AT_LIVE = 7, AT_FAULTS, AT_LOCAL_LATCH,
-       AT_REMOTE_LATCH, AT_SETTINGS, AT_LOW = AT_SETTINGS + SETTINGS, AT_LOW_KEPT };
+/* Places in a reader dump. */
 enum { AT_HEADER, AT_COUNT, AT_DONE = 5, AT_CARRIED = 9, AT_CARRY, AT_HELD = 13, AT_DEVICES, AT_FIRST, AT_SECOND = AT_FIRST + DEVICE_BYTES };
 
 /* ---- Chance ------------------------------------------------------------ */
@@ -184,17 +170,6 @@ typedef struct {
 static uint8_t own_address(const bench *b)
 {
     return b->variant == 1 ? 0x4C : 0x4D;
-}
-
-static void power_on_settings(uint8_t *set, uint8_t variant)
-{
-    memset(set, 0, SETTINGS);
-    set[RATE] = 8;
-    set[LOCAL_HIGH] = 70;
-    set[REMOTE_HIGH] = 70;
-    set[REMOTE_CRIT] = 110;
-    set[LOCAL_CRIT] = variant == 3 ? 105 : 85;
-    set[HYSTERESIS] = 10;
 }
 
 static void plan(bench *b, uint8_t kind, uint8_t first, uint8_t second, uint8_t third)

@@ -20,8 +20,6 @@ const CONVERSION: u8 = 5;
 
 const OPEN: u8 = 6;
 
-const STANDBY: u8 = 10;
-
 // A code, whether T_CRIT_A is pulled, and how many records were read, a refused one among them.
 #[repr(C)]
 pub struct Soaked {
@@ -78,23 +76,15 @@ fn remote(s: [u8; 14], kind: u8, b: u8, c: u8) -> i16
 fn began() -> Ends
     ensures { λ r. ⌜ r ≡ beganOf ⌝ }
 {
+    let same = Made {
+        clear: false,
+        set: true,
+    };
     Ends {
-        local: Made {
-            clear: false,
-            set: true,
-        },
-        none: Made {
-            clear: false,
-            set: true,
-        },
-        one: Made {
-            clear: false,
-            set: true,
-        },
-        more: Made {
-            clear: false,
-            set: true,
-        },
+        local: same,
+        none: same,
+        one: same,
+        more: same,
     }
 }
 
@@ -241,7 +231,7 @@ pub extern "C" fn lm89_soak(device: Device, records: &[u8]) -> Soaked
         return refused(8, 0);
     }
     if asleep {
-        return refused(STANDBY, 0);
+        return refused(10, 0);
     }
     if records.len() % 4 != 0 {
         return refused(4, 0);

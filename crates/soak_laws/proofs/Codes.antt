@@ -1,5 +1,5 @@
 -- `codes`: a soak gives a code exactly if its line of the table says so, `Gives`: 8, 10, 4 for the length, then 3 or 4 at the first record met that is no
--- valid 05 or 06, else 0. `refused-at`: that record is counted among those read. `one-soak`: two results that meet the promise are equal.
+-- valid 05 or 06, else 0. `refused-at`: that record is counted among those read.
 -- Assumes nothing.
 use Prim.Native.Nat.{ℕ, zero, suc, _+_, _%_, _≤_}
 use mathlib.Core.Path.{_≡_, refl, sym, ap, _∙_}
@@ -12,7 +12,6 @@ use lib.ListN.{length, take, drop}
 use borrow.Author.Tests.{eqb-true, eqb-false, ne-eqb}
 use Rattle.laws.proofs.Choices.{by-test}
 use Rattle.laws.proofs.Exactly.{by-lines}
-use Rattle.laws.proofs.OneAnswer.{one-answer}
 use Rattle.device.specs.declared.Device.{Device}
 use Rattle.device.specs.declared.Event.{Event}
 use Rattle.record.specs.declared.Record.the-variants.{Refused}
@@ -28,9 +27,6 @@ use Rattle.soak_laws.specs.Stretch.Gives.{state, asleep, uneven, kind, o
 use Rattle.soak_laws.proofs.Ways.{by-record, valid-code, refusal-code, back-ind, onto, onto-met}
 use Rattle.soak_laws.proofs.FullRun.{reads-back}
 use Rattle.soak_laws.proofs.Reading.{fewer, soak-ind, is-too-few, too-few-so}
-
-pub one-soak : (d : Device) (records : List ℕ) {r s : Soaked} → r ≡ soakOf d records → s ≡ soakOf d records → r ≡ s
-one-soak d records p q = one-answer p q
 
 module _ (d : Device) where
   -- ---- a reading that ends with a code

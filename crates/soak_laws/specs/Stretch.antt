@@ -29,7 +29,7 @@ abbrev pub AllConversions : List Quad → Type 0
 AllConversions [] = Unit {0}
 AllConversions (q ∷ qs) = (codeOf (metOf q) ≡ 0) × AllConversions qs
 
--- its latest j records, the latest first, and all of them
+-- its latest j records, the latest first; all of them where there are fewer
 abbrev pub latestRecords : ℕ → List ℕ → List Quad
 latestRecords j records = take j (latestFirst records)
 
