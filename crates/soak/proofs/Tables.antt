@@ -41,6 +41,20 @@ endsBy d read =
 pub none-read : (d : Device) → beganOf ≡ endsBy d []
 none-read d = refl
 
+-- ---- latches that stand twice in a list
+
+two-alike : (x y : Bool) → alike (x ∷ y ∷ []) ≡ alike (x ∷ y ∷ x ∷ y ∷ x ∷ y ∷ x ∷ y ∷ [])
+two-alike true true = refl
+two-alike true false = refl
+two-alike false true = refl
+two-alike false false = refl
+
+six-alike : (a b c e x y : Bool) → alike (a ∷ b ∷ c ∷ e ∷ x ∷ y ∷ []) ≡ alike (a ∷ b ∷ c ∷ e ∷ x ∷ y ∷ x ∷ y ∷ [])
+six-alike a b c e true true = refl
+six-alike a b c e true false = refl
+six-alike a b c e false true = refl
+six-alike a b c e false false = refl
+
 -- ---- from a device in run mode, under the same settings
 
 made-is : (ch : Channel) (d : Device) (read : List Event) (n : ℕ) (o : Bool) → madeOf (madeBy ch d read n) o ≡ latchAfter ch (supposing d n o o) read
@@ -136,18 +150,6 @@ module _ (d : Device) (running : Running d) (read : List Event) (all : AllConver
         counts = two-is-three;
         latch = refl;
       }))
-
-  two-alike : (x y : Bool) → alike (x ∷ y ∷ []) ≡ alike (x ∷ y ∷ x ∷ y ∷ x ∷ y ∷ x ∷ y ∷ [])
-  two-alike true true = refl
-  two-alike true false = refl
-  two-alike false true = refl
-  two-alike false false = refl
-
-  six-alike : (a b c e x y : Bool) → alike (a ∷ b ∷ c ∷ e ∷ x ∷ y ∷ []) ≡ alike (a ∷ b ∷ c ∷ e ∷ x ∷ y ∷ x ∷ y ∷ [])
-  six-alike a b c e true true = refl
-  six-alike a b c e true false = refl
-  six-alike a b c e false true = refl
-  six-alike a b c e false false = refl
 
   pub decided-is : decidedBy (endsBy d read) ≡ bothDecided d read
   unfolding decidedBy decidedOf

@@ -8,6 +8,7 @@ use mathlib.Core.Logic.{_↔_}
 use mathlib.Core.Bool.{Bool, true, false, not}
 use mathlib.Core.List.{List, [], _∷_}
 use native.Mathlib.Omega.{arith}
+use borrow.Author.Tests.{not-true}
 use Rattle.laws.proofs.Choices.{clash, by-test, and-left, and-right}
 use Rattle.conversion.specs.declared.Sensed.{Sensed}
 use Rattle.conversion.specs.Channels.{Channel, localChannel, remoteChannel, latchAt}
@@ -33,10 +34,6 @@ picked f t (suc (suc zero)) h true = t .1 .1 .1 .1 .1 .0
 picked f t (suc (suc (suc zero))) h false = t .1 .1 .1 .1 .1 .1 .0
 picked f t (suc (suc (suc zero))) h true = t .1 .1 .1 .1 .1 .1 .1 .0
 picked f t (suc (suc (suc (suc n)))) h o = absurd (omega arith)
-
-not-true : (x : Bool) → not x ≡ true → x ≡ false
-not-true true e = sym e
-not-true false e = refl
 
 each-same : (f : ℕ → Bool → Bool) → alike (eachEarlier f) ≡ true → (n : ℕ) → n ≤ 3 → (o : Bool) → f n o ≡ f 0 false
 each-same f p n h o =
