@@ -4,7 +4,8 @@
  * lm89_run takes a whole capture; lm89_fresh, lm89_feed and lm89_finish take one in parts, and a record a call if need be; lm89_power_on and
  * lm89_step keep one device in the caller's memory; lm89_write_header, lm89_write_header_2 and lm89_write_event write a capture; lm89_soak tells
  * T_CRIT_A at the end of a long stretch of conversions from the last of them. Two devices on one bus stand in a reader, and step by lm89_feed.
- * Link liblm89.a.
+ * lm89_fan_step, lm89_fan_duty and lm89_fan_preset are the fan side of another part, the LM63; they stand beside the sensor and share no state with
+ * it. Link liblm89.a.
  * None of them allocates, keeps anything between calls or touches memory other than what it is lent.
  *
  * What a caller owes, beyond what C asks of every program: slices that are lent to one call do not overlap; a slice whose length is not 0
@@ -29,7 +30,7 @@ extern "C" {
  * lm89_version() / LM89_VERSION_UNIT == LM89_VERSION_MAJOR.
  */
 #define LM89_VERSION_MAJOR 4
-#define LM89_VERSION_MINOR 3
+#define LM89_VERSION_MINOR 4
 #define LM89_VERSION_UNIT 65536u
 
 /* The parts. */
@@ -176,13 +177,15 @@ enum {
     LM89_CODE_DEVICE_COUNT = 1, /* the device count is not 1 or 2 */
     LM89_CODE_VARIANT = 2,      /* a variant is not 1, 2 or 3 */
     LM89_CODE_KIND = 3,         /* the kind is not 1 to 9, or is 8 or 9 where the device count is 1 or in lm89_step; in lm89_soak, is not 5 or 6 */
-    LM89_CODE_OPERAND = 4,      /* an operand is outside the table of kinds; in lm89_soak also a length that is no multiple of LM89_RECORD_BYTES */
+    LM89_CODE_OPERAND = 4,      /* an operand is outside the table of kinds; in lm89_soak also a length that is no multiple of LM89_RECORD_BYTES;
+                                   in lm89_fan_step, lm89_fan_duty and lm89_fan_preset a number out of its range */
     LM89_CODE_PAST_END = 5,     /* a byte comes after the last counted record */
     LM89_CODE_CUT_SHORT = 6,    /* the capture ends before its counted end */
     LM89_CODE_NO_ROOM = 7,      /* too little room: for a valid record's answer; in a writer, for what it writes */
     LM89_CODE_RANGE = 8,        /* the device or reader handed in is out of its ranges */
     LM89_CODE_ADDRESS = 9,      /* the two devices have one address */
     LM89_CODE_STANDBY = 10,     /* the device handed to lm89_soak is in standby */
+    LM89_CODE_FALLING = 11,     /* the temperatures of the table handed to lm89_fan_step fall along it */
 };
 
 /*
@@ -281,6 +284,39 @@ typedef struct {
     uint64_t read; /* records read, a refused one among them; 0 on LM89_CODE_RANGE, LM89_CODE_STANDBY and a length that is no multiple of LM89_RECORD_BYTES */
 } lm89_soaked;
 
+/* The fan table: its entries, and the two bytes of each. LM89_FAN_ALL is a duty of 100 percent. */
+enum {
+    LM89_FAN_ENTRIES = 8,
+    LM89_FAN_TEMPERATURE = 0,
+    LM89_FAN_VALUE = 1,
+    LM89_FAN_ENTRY_BYTES = 2,
+    LM89_FAN_ALL = 10000,
+};
+
+/*
+ * The fan settings of an LM63. The table's bytes stand as in its registers 50h to 5Fh: temperature and PWM value of entry 1, then of entry 2, and so
+ * on; hysteresis is register 4Fh, frequency register 4Dh.
+ */
+typedef struct {
+    uint8_t table[LM89_FAN_ENTRIES][LM89_FAN_ENTRY_BYTES]; /* temperature, degrees, 0 to 127, none below the one before it; PWM value, 0 to 63 */
+    uint8_t hysteresis;                                    /* degrees, 0 to 31 */
+    uint8_t frequency;                                     /* n, 0 to 31; 0 counts as 1 */
+} lm89_fan;
+
+/* What a fan does after a reading. On a code other than 0 the other numbers are 0. */
+typedef struct {
+    uint8_t code;  /* LM89_CODE_... */
+    uint8_t step;  /* the entry that is in force, 1 to LM89_FAN_ENTRIES; 0 for none */
+    uint8_t value; /* its PWM value; 0 for none */
+    uint16_t duty; /* the duty of that value, in hundredths of a percent: 0 to LM89_FAN_ALL */
+} lm89_driven;
+
+/* A code and a number, which is 0 on a code other than 0. */
+typedef struct {
+    uint8_t code; /* LM89_CODE_... */
+    uint16_t value;
+} lm89_number;
+
 /* The library's version: LM89_VERSION_UNIT times its major number plus its minor one. */
 uint32_t lm89_version(void);
 
@@ -356,6 +392,34 @@ lm89_device lm89_power_on(uint8_t variant);
  * T_CRIT_A as it stands. The device is not changed, and nothing is written.
  */
 lm89_soaked lm89_soak(lm89_device device, const uint8_t *records, size_t length);
+
+/*
+ * The step of an LM63's fan after a reading, which is in whole degrees, -128 to 127: the high byte of a remote reading, which rounds down. `earlier` is the
+ * step before it, 0 for none. The step is the highest entry whose temperature the reading reaches, or, for entries up to the earlier step, whose temperature
+ * less hysteresis it reaches. To reach is to be at least as high, where the data sheet says "exceeds"; a temperature less hysteresis may lie below 0. Of
+ * entries of one temperature the last is the highest; but less hysteresis it counts only up to the earlier step. No such entry means step 0 and PWM
+ * value 0. The duty is what lm89_fan_duty gives for that value at the fan's frequency. The code is
+ *   LM89_CODE_FALLING (11) if a temperature is below that of the entry before it, as the bytes stand, whatever is out of its range,
+ *   then LM89_CODE_OPERAND (4) if a temperature is above 127, a PWM value above 63, hysteresis or frequency above 31 or earlier above LM89_FAN_ENTRIES,
+ *     whether or not the step hangs on it,
+ *   else LM89_CODE_DONE (0).
+ * On another code than 0 `step` is 0 and is no step: keep the earlier one. With the same fan and the same reading the step of an answer with code 0, handed
+ * back as `earlier`, does not change, nor does the rest of that answer. With the same fan and the same `earlier` a hotter reading never gives a lower step;
+ * a PWM value, and with it the duty, may be lower, where the table has it so.
+ */
+lm89_driven lm89_fan_step(lm89_fan fan, uint8_t earlier, int8_t reading);
+
+/*
+ * The duty of a PWM value in hundredths of a percent: value over twice the frequency, LM89_FAN_ALL where value is that or more, to the nearest
+ * hundredth, ties upward; a frequency of 0 counts as 1. LM89_CODE_OPERAND (4) if frequency is above 31 or value above 63, else LM89_CODE_DONE (0).
+ */
+lm89_number lm89_fan_duty(uint8_t frequency, uint8_t value);
+
+/*
+ * The PWM value for a duty of about 75 percent: one and a half times the frequency, a half going up, but 1 at a frequency of 1, where the duty is 50
+ * percent; a frequency of 0 counts as 1. LM89_CODE_OPERAND (4) if frequency is above 31, else LM89_CODE_DONE (0).
+ */
+lm89_number lm89_fan_preset(uint8_t frequency);
 
 /*
  * Writes the header of a capture of one device, LM89_HEADER_BYTES of them, to the front of room: LM89_CODE_VARIANT (2) if the variant is not

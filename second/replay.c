@@ -16,14 +16,21 @@
  *   B  device count, four bytes         decode: code, kind, three operands
  *   C  length 4, room 4, bytes          run: result 8, the room
  *   K  length 4, bytes                  soak of the device: code, pulled (0 or 1), read 8
+ *   T  table 16, hysteresis, frequency, earlier, reading
+ *                                       fan step: code, step, value, duty 2
+ *   U  frequency, value                 fan duty: code, value 2
+ *   V  frequency                        fan preset: code, value 2
  *
  * A dump has the fields in the order of second.h: a device's is 27 bytes, and a
  * reader's 69, of which the last 55 are its bus: the device count and the dumps of
  * both devices, the second's there with one device too.  A bool is 0 or 1, and loaded
  * as true if not 0.  The four bytes of S, W and B are a record's, and may be any bytes,
  * as may the device count of B.  The bytes of K are records, any bytes too; it does not
- * change the device.  Status 1 with a message on an unknown command, a capture or room
- * above 1,000,000 in C, a stretch above 1,000,000 in K, or a stream cut inside a call. */
+ * change the device.  The table of T is temperature and PWM value, eight times, its reading
+ * is in two's complement, and all bytes of T, U and V may be any; they touch neither reader
+ * nor device.  Status 1 with a message on an unknown command, a capture or room above
+ * 1,000,000 in C, a stretch above 1,000,000 in K, or a stream cut inside a call. */
+#include "fan.h"
 #include "second.h"
 #include "soak.h"
 
@@ -359,6 +366,46 @@ static void call_soak(const second_device *device)
     free(records);
 }
 
+static void put_fan_number(second_number number)
+{
+    put_byte(number.code);
+    put_number(number.value, 2);
+}
+
+static void call_fan_step(void)
+{
+    second_fan fan;
+    for (int entry = 0; entry < SECOND_FAN_ENTRIES; entry++)
+        get(fan.table[entry], sizeof fan.table[entry]);
+    fan.hysteresis = (uint8_t)get_number(1);
+    fan.frequency = (uint8_t)get_number(1);
+    uint8_t earlier = (uint8_t)get_number(1);
+    int reading = (int)get_number(1);
+    if (reading >= 0x80)
+        reading -= 0x100;
+    second_driven driven = second_fan_step(fan, earlier, (int8_t)reading);
+    put_byte('T');
+    put_byte(driven.code);
+    put_byte(driven.step);
+    put_byte(driven.value);
+    put_number(driven.duty, 2);
+}
+
+static void call_fan_duty(void)
+{
+    uint8_t frequency = (uint8_t)get_number(1);
+    uint8_t value = (uint8_t)get_number(1);
+    put_byte('U');
+    put_fan_number(second_fan_duty(frequency, value));
+}
+
+static void call_fan_preset(void)
+{
+    uint8_t frequency = (uint8_t)get_number(1);
+    put_byte('V');
+    put_fan_number(second_fan_preset(frequency));
+}
+
 /* A call on the held reader or device; false if the command is none. */
 static bool answer_held(second_reader *reader, second_device *device)
 {
@@ -392,9 +439,27 @@ static bool answer_held(second_reader *reader, second_device *device)
     }
 }
 
+/* A call on the fan; false if the command is none. */
+static bool answer_fan(void)
+{
+    switch (command) {
+    case 'T':
+        call_fan_step();
+        return true;
+    case 'U':
+        call_fan_duty();
+        return true;
+    case 'V':
+        call_fan_preset();
+        return true;
+    default:
+        return false;
+    }
+}
+
 static void answer(second_reader *reader, second_device *device)
 {
-    if (answer_held(reader, device))
+    if (answer_held(reader, device) || answer_fan())
         return;
     switch (command) {
     case 'W':

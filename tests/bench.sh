@@ -90,13 +90,23 @@ large() {
     done
 }
 
-# An example prints what stands on standard input.
+# An example prints what stands on standard input; it stays in build/printed-NAME.
 prints() {
     cat >build/counted
     program "$1" "examples/$1.c"
-    run "build/$1" >build/listed || stop "examples/$1.c failed, see above"
-    same build/counted build/listed "examples/$1.c prints something else"
+    run "build/$1" >"build/printed-$1" || stop "examples/$1.c failed, see above"
+    same build/counted "build/printed-$1" "examples/$1.c prints something else"
     printf 'example: %s ok\n' "$1"
+}
+
+# The example of the fan, with its settings changed by an edit, ends with a message.
+refused_fan() {
+    local said
+    sed "$1" examples/fan.c >build/refused-fan.c
+    program refused-fan build/refused-fan.c
+    ! said=$(run build/refused-fan 2>&1 >build/listed) || stop "examples/fan.c drives a fan after $1"
+    [ "$said" = "$2" ] || stop "examples/fan.c says '$said' after $1, expected '$2'"
+    printf 'example: fan refused ok\n'
 }
 
 # What the program listing says where input or output fails; it has no exit status.
@@ -122,6 +132,7 @@ is_cpp examples/stream.c
 is_cpp examples/pair.c
 is_cpp examples/two.c
 is_cpp examples/soak.c
+is_cpp examples/fan.c
 printf 'c++: headers ok\n'
 passes layout tests/c/layout.c
 passes run tests/c/run.c
@@ -130,6 +141,7 @@ passes feed tests/c/feed.c
 passes write tests/c/write.c
 passes both tests/c/both.c
 passes soak tests/c/soak.c
+passes fan tests/c/fan.c
 program list tests/c/list.c
 program stream examples/stream.c
 # Pairs of reads with a conversion between: 31 E0 is 399 eighths, 32 00 is 400.
@@ -152,6 +164,31 @@ warm all day: code 0, T_CRIT_A is let go, 1382400 of 1382400 records read
 three hot at the end: code 0, T_CRIT_A is pulled, 3 of 1382400 records read
 cold, then two hot: code 0, T_CRIT_A is let go, 3 of 1382400 records read
 END
+# The data sheet's table, of 40 all told: 9 is 22.50 percent. Entry 4, of 65 degrees, holds at 63 and not at 60; then 63 does not reach it.
+prints fan <<'END'
+degrees  step  PWM value  duty in percent
+     -5     0          0             0.00
+     34     0          0             0.00
+     35     1          9            22.50
+     48     2         10            25.00
+     66     4         16            40.00
+     63     4         16            40.00
+     60     3         13            32.50
+     63     3         13            32.50
+     88     6         26            65.00
+    106     8         40           100.00
+    101     8         40           100.00
+    100     7         33            82.50
+     72     5         21            52.50
+     40     1          9            22.50
+     31     1          9            22.50
+     30     0          0             0.00
+preset of about 75 percent: PWM value 30, duty 75.00 percent
+END
+refused_fan 's/{75, 21}/{57, 21}/' \
+    'fan: lm89_fan_step gives code 11: entry 5 has 57 degrees, below the 65 of entry 4: put the entries in order of temperature'
+refused_fan 's/{105, 40}/{105, 64}/' \
+    'fan: lm89_fan_step gives code 4: out of range: make temperatures 0 to 127, PWM values 0 to 63, hysteresis and frequency 0 to 31'
 for hex in samples/*.hex; do
     sample "$(basename "$hex" .hex)"
 done

@@ -1,10 +1,10 @@
 #!/usr/bin/env bash
-# The second program held to the proved one, call for call: streams of calls with fixed seeds (tests/compare/streams.c, histories.c and
-# soaks.c there) go through second/replay.c and through the C library (tests/compare/library.c), and what both write is compared byte
-# for byte; captures also go through second/listing.c and 'lm89 list'; latches and T_CRIT_A after every record of a capture are held to
-# the second account of request e (second/account.c). Prints what was covered and the lines of second/second.c and second/soak.c that
-# were not reached; exits non-zero at the first failure. Needs what tests/bench.sh leaves in build/. All its files are in build/compare.
-# 'tests/compare.sh COMMAND' takes that command in the place of the library program.
+# The second program held to the proved one, call for call: streams of calls with fixed seeds (tests/compare/streams.c, histories.c,
+# soaks.c and fans.c there) go through second/replay.c and through the C library (tests/compare/library.c), and what both write is
+# compared byte for byte; captures also go through second/listing.c and 'lm89 list'; latches and T_CRIT_A after every record of a capture
+# are held to the second account of request e (second/account.c). Prints what was covered and the lines of second/second.c, soak.c and
+# fan.c there that were not reached; exits non-zero at the first failure. Needs what tests/bench.sh leaves in build/. All its files are in
+# build/compare. 'tests/compare.sh COMMAND' takes that command in the place of the library program.
 set -euo pipefail
 cd "$(dirname "$0")/.."
 source scripts/machine.sh
@@ -14,9 +14,12 @@ strict=(-std=c11 -Wall -Wextra -Werror -pedantic)
 # One build of second/ for both: what the sanitizers see, and the lines that are reached, which gcov counts by gcc.
 watched=(gcc "${strict[@]}" -fsanitize=address,undefined -fno-sanitize-recover=all --coverage)
 themes=(device reader pair runs device-ranges reader-ranges writer listed)
-writers=(histories soaks) # programs that write one stream each
+writers=(histories soaks fans) # programs that write one stream each
 streams=("${themes[@]/#/$here/}" "${writers[@]/#/$here/}")
 streams=("${streams[@]/%/.stream}")
+parts=(second soak fan) # files of second/ that replay.c calls, the lines of which are counted
+objects=("${parts[@]/#/$here/}")
+objects=("${objects[@]/%/.o}")
 lines_least=99
 export ASAN_OPTIONS=detect_leaks=0
 export PYTHONPYCACHEPREFIX=$PWD/$here/pycache
@@ -47,10 +50,12 @@ make_streams() {
 }
 
 make_second() {
+    local part
     rm -f "$here"/*.gcda
-    "${watched[@]}" -c -o "$here/second.o" second/second.c
-    "${watched[@]}" -c -o "$here/soak.o" second/soak.c
-    "${watched[@]}" -o "$here/second" "$here/second.o" "$here/soak.o" second/replay.c
+    for part in "${parts[@]}"; do
+        "${watched[@]}" -c -o "$here/$part.o" "second/$part.c"
+    done
+    "${watched[@]}" -o "$here/second" "${objects[@]}" second/replay.c
     "${watched[@]}" -o "$here/second-listing" "$here/second.o" second/listing.c
     cc "${strict[@]}" -O1 -fsanitize=address,undefined -fno-sanitize-recover=all -o "$here/history" second/history.c second/account.c second/second.c
 }
@@ -90,6 +95,7 @@ python3 tests/compare/listings.py "$here/second-listing" 'build/bin/lm89 list' "
 python3 tests/compare/histories.py "$here/history" "$here/runs.stream" "$here/listed.stream" "$here/histories.stream" ||
     stop "latches or T_CRIT_A are not as the account of request e has them, or a row never occurred, see above: document 02 says what is right"
 python3 tests/compare/covered.py "${streams[@]}" ||
-    stop "see above: add what never occurred to tests/compare/streams.c or soaks.c; documents 01 and 02 say what a wrong answer must be"
-measure_lines second
-measure_lines soak
+    stop "see above: add what never occurred to tests/compare/streams.c, soaks.c or fans.c; documents 01 and 02 say what a wrong answer must be"
+for part in "${parts[@]}"; do
+    measure_lines "$part"
+done

@@ -14,6 +14,8 @@ stop() {
 cc "${flags[@]}" -fsanitize=address,undefined -fno-sanitize-recover=all -o build/second-selftest \
     second/second.c second/soak.c second/account.c second/selftest.c
 ASAN_OPTIONS=detect_leaks=0 build/second-selftest || stop "second/selftest.c failed, see above"
+cc "${flags[@]}" -fsanitize=address,undefined -fno-sanitize-recover=all -o build/second-fan-selftest second/fan.c second/fan_selftest.c
+ASAN_OPTIONS=detect_leaks=0 build/second-fan-selftest || stop "second/fan_selftest.c failed, see above"
 cc "${flags[@]}" -o build/second-listing second/second.c second/listing.c
 for hex in samples/*.hex; do
     python3 tests/hex.py <"$hex" | build/second-listing >build/listed

@@ -1,6 +1,6 @@
 /*
  * The headers against the library and the documents: where each struct's fields stand, the number of each name, and which fields
- * of a device each event moves.
+ * of a device each event moves; for a fan, which byte is which number.
  */
 #include <string.h>
 
@@ -32,6 +32,20 @@ _Static_assert(sizeof(lm89_soaked) == 16, "size of lm89_soaked");
 _Static_assert(offsetof(lm89_soaked, code) == 0, "code of lm89_soaked");
 _Static_assert(offsetof(lm89_soaked, pulled) == 1, "pulled");
 _Static_assert(offsetof(lm89_soaked, read) == 8, "read");
+_Static_assert(sizeof(lm89_fan) == 18, "size of lm89_fan");
+_Static_assert(offsetof(lm89_fan, table) == 0, "table");
+_Static_assert(sizeof(((lm89_fan *)0)->table) == 16, "size of table");
+_Static_assert(sizeof(((lm89_fan *)0)->table[0]) == 2, "size of an entry of table");
+_Static_assert(offsetof(lm89_fan, hysteresis) == 16, "hysteresis");
+_Static_assert(offsetof(lm89_fan, frequency) == 17, "frequency");
+_Static_assert(sizeof(lm89_driven) == 6, "size of lm89_driven");
+_Static_assert(offsetof(lm89_driven, code) == 0, "code of lm89_driven");
+_Static_assert(offsetof(lm89_driven, step) == 1, "step");
+_Static_assert(offsetof(lm89_driven, value) == 2, "value of lm89_driven");
+_Static_assert(offsetof(lm89_driven, duty) == 4, "duty");
+_Static_assert(sizeof(lm89_number) == 4, "size of lm89_number");
+_Static_assert(offsetof(lm89_number, code) == 0, "code of lm89_number");
+_Static_assert(offsetof(lm89_number, value) == 2, "value of lm89_number");
 _Static_assert(sizeof(lm89_bus) == 58, "size of lm89_bus");
 _Static_assert(offsetof(lm89_bus, devices) == 0, "devices");
 _Static_assert(offsetof(lm89_bus, first) == 2, "first of lm89_bus");
@@ -156,6 +170,12 @@ NAMES(LM89_CODE_NO_ROOM, 7);
 NAMES(LM89_CODE_RANGE, 8);
 NAMES(LM89_CODE_ADDRESS, 9);
 NAMES(LM89_CODE_STANDBY, 10);
+NAMES(LM89_CODE_FALLING, 11);
+NAMES(LM89_FAN_ENTRIES, 8);
+NAMES(LM89_FAN_TEMPERATURE, 0);
+NAMES(LM89_FAN_VALUE, 1);
+NAMES(LM89_FAN_ENTRY_BYTES, 2);
+NAMES(LM89_FAN_ALL, 10000);
 NAMES(LM89_LIST_WHOLE, 0);
 NAMES(LM89_LIST_NOT_READ, 1);
 NAMES(LM89_LIST_NOT_WRITTEN, 2);
@@ -579,6 +599,27 @@ static void test_low_ranges(void)
     CHECK(in_range == sizeof multiples + 1);
 }
 
+/* Request g: eighteen bytes in the order of registers 50h to 5Fh, then hysteresis and frequency. The library takes each for the number that it is. */
+static void test_fan(void)
+{
+    static const uint8_t bytes[] = {10, 1, 20, 2, 30, 3, 40, 4, 50, 5, 60, 6, 70, 7, 80, 8, 5, 16};
+    static const uint16_t duties[LM89_FAN_ENTRIES] = {313, 625, 938, 1250, 1563, 1875, 2188, 2500}; /* of 32, ties upward */
+    lm89_fan fan;
+    CHECK(sizeof bytes == sizeof fan);
+    memcpy(&fan, bytes, sizeof fan);
+    CHECK(fan.hysteresis == 5 && fan.frequency == 16);
+    for (uint8_t i = 0; i < LM89_FAN_ENTRIES; i++) {
+        int8_t temperature = (int8_t)(10 * (i + 1));
+        CHECK(fan.table[i][LM89_FAN_TEMPERATURE] == temperature && fan.table[i][LM89_FAN_VALUE] == i + 1);
+        lm89_driven driven = lm89_fan_step(fan, 0, temperature);
+        CHECK(driven.code == LM89_CODE_DONE && driven.step == i + 1 && driven.value == i + 1 && driven.duty == duties[i]);
+        driven = lm89_fan_step(fan, (uint8_t)(i + 1), (int8_t)(temperature - fan.hysteresis));
+        CHECK(driven.code == LM89_CODE_DONE && driven.step == i + 1 && driven.value == i + 1 && driven.duty == duties[i]);
+        lm89_number number = lm89_fan_duty(fan.frequency, fan.table[i][LM89_FAN_VALUE]);
+        CHECK(number.code == LM89_CODE_DONE && number.value == duties[i]);
+    }
+}
+
 int main(void)
 {
     test_version();
@@ -600,5 +641,6 @@ int main(void)
     test_zeros();
     test_ranges();
     test_low_ranges();
+    test_fan();
     return 0;
 }

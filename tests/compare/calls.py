@@ -3,11 +3,14 @@
 DEVICE_BYTES = 27
 READER_BYTES = 69
 RECORD_BYTES = 4
+TABLE_BYTES = 16  # a fan's table: temperature and PWM value of eight entries
+FAN_BYTES = TABLE_BYTES + 2  # and hysteresis and frequency
 DEVICES, FIRST, SECOND = 14, 15, 42  # where the device count and the two devices stand in a reader
 
 NAMES = {
     "N": "fresh reader", "R": "set the reader", "F": "feed", "E": "finish", "D": "set the device", "P": "power on",
     "S": "step", "W": "write event", "H": "write header", "G": "write header of two", "B": "decode", "C": "run", "K": "soak",
+    "T": "fan step", "U": "fan duty", "V": "fan preset",
 }
 KINDS = {
     1: "write", 2: "read", 3: "send", 4: "receive", 5: "conversion", 6: "conversion, diode open", 7: "power-on",
@@ -27,9 +30,10 @@ READER_FIELDS = [
     ("header bytes taken", 1), ("record count", 4), ("records done", 4), ("record bytes carried", 1), ("carried bytes", 3),
     ("held code", 1), ("device count", 1),
 ] + [(f"{which}: {name}", length) for which in ("first", "second") for name, length in DEVICE_FIELDS]
-FIXED_CALLS = {78: 1, 82: 1 + READER_BYTES, 69: 1, 68: 1 + DEVICE_BYTES, 80: 2, 83: 5, 87: 7, 72: 8, 71: 9, 66: 6}
+FIXED_CALLS = {78: 1, 82: 1 + READER_BYTES, 69: 1, 68: 1 + DEVICE_BYTES, 80: 2, 83: 5, 87: 7, 72: 8, 71: 9, 66: 6,
+               84: 3 + FAN_BYTES, 85: 3, 86: 2}
 ROOM_PLACES = {70: (3, 5), 87: (5, 7), 72: (6, 8), 71: (7, 9), 67: (5, 9)}  # where a call has the room that it lends
-FIXED_RESULTS = {78: 1, 82: 1, 69: 2, 68: 1, 80: 1 + DEVICE_BYTES, 83: 4 + DEVICE_BYTES, 66: 6, 75: 11}
+FIXED_RESULTS = {78: 1, 82: 1, 69: 2, 68: 1, 80: 1 + DEVICE_BYTES, 83: 4 + DEVICE_BYTES, 66: 6, 75: 11, 84: 6, 85: 4, 86: 4}
 
 
 def kinds_under(devices):
@@ -182,6 +186,23 @@ def event_words(record):
     return f"kind {kind} ({KINDS.get(kind, 'unknown')}), a {record[1]:02X}, b {record[2]:02X}, c {record[3]:02X}"
 
 
+def fan_parts(fan):
+    """Temperatures, PWM values, hysteresis and frequency of a fan."""
+    table = fan[:TABLE_BYTES]
+    return table[0::2], table[1::2], *fan[TABLE_BYTES:]
+
+
+def fan_words(fan):
+    temperatures, values, hysteresis, frequency = fan_parts(fan)
+    entries = ", ".join(f"{temperature} {value}" for temperature, value in zip(temperatures, values))
+    return f"table {entries}, hysteresis {hysteresis}, frequency {frequency}"
+
+
+def fan_reading(call):
+    """The reading of a fan step, in whole degrees."""
+    return int.from_bytes(call[-1:], "big", signed=True)
+
+
 def call_words(call):
     """A call in one line."""
     command = chr(call[0])
@@ -197,6 +218,9 @@ def call_words(call):
         "B": lambda: f"device count {call[1]}, {hexed(call[2:])}",
         "C": lambda: f"room {room(call)}, {len(run_capture(call))} bytes: {hexed(run_capture(call))}",
         "K": lambda: stretch_words(soak_stretch(call)),
+        "T": lambda: f"{fan_words(call[1:-2])}, earlier step {call[-2]}, reading {fan_reading(call)}",
+        "U": lambda: f"frequency {call[1]}, PWM value {call[2]}",
+        "V": lambda: f"frequency {call[1]}",
     }
     return f"{NAMES[command]}: {told[command]()}" if command in told else NAMES[command]
 
@@ -220,5 +244,8 @@ def result_fields(call, result):
         "B": [("command", 1), ("code", 1), ("kind", 1), ("a", 1), ("b", 1), ("c", 1)],
         "C": [("command", 1), ("result", 8), ("room", lent)],
         "K": [("command", 1), ("code", 1), ("pulled", 1), ("records read", 8)],
+        "T": [("command", 1), ("code", 1), ("step", 1), ("PWM value", 1), ("duty", 2)],
+        "U": [("command", 1), ("code", 1), ("duty", 2)],
+        "V": [("command", 1), ("code", 1), ("PWM value", 2)],
     }
     return fields(layouts.get(command, [("command", 1)]), result)

@@ -170,21 +170,21 @@ def shorter_soak(pair, parts, at):
     return rebuilt(without_some(records, lambda kept: pair.disagree(rebuilt(kept))))
 
 
-def plainer_state(pair, parts, at):
-    """The call at this place, which sets a state, with as many bytes 0 as can be."""
+def plainer(pair, parts, at):
+    """The call at this place, which sets a state or is one of the fan, with as many bytes 0 as can be."""
     for place in range(1, len(parts[at])):
         call = parts[at][:place] + b"\0" + parts[at][place + 1 :]
-        plainer = parts[:at] + [call] + parts[at + 1 :]
-        if call != parts[at] and pair.disagree(plainer):
-            parts = plainer
+        tried = parts[:at] + [call] + parts[at + 1 :]
+        if call != parts[at] and pair.disagree(tried):
+            parts = tried
     return parts
 
 
 def shortest(pair, parts, results, at):
     parts = fewer_calls(pair, parts, results, at)
     for place, call in enumerate(parts):
-        if call[:1] in (b"D", b"R"):
-            parts = plainer_state(pair, parts, place)
+        if call[:1] in (b"D", b"R", b"T", b"U", b"V"):
+            parts = plainer(pair, parts, place)
         if call[:1] == b"C":
             parts = parts[:place] + [shorter_run(pair, call)] + parts[place + 1 :]
         if call[:1] == b"F":

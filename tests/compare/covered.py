@@ -3,8 +3,8 @@
 
 Fails, naming it, if anything of the table never occurred, or below 200,000 calls or 1,000,000 records, or if D4 to D7 of an answer
 are not as request b has them (held.py), or an answer or a device of two not as request c has it (pairs.py), or a soak not as request f
-has it (soaks.py). A record is one that was answered, by a step, a feed or a run, or read by a soak. What happened is decided from the
-stream and from the results, which both sides share.
+has it (soaks.py), or a call of the fan not as request g has it (fans.py). A record is one that was answered, by a step, a feed or a
+run, or read by a soak. What happened is decided from the stream and from the results, which both sides share.
 """
 import collections
 import concurrent.futures
@@ -12,6 +12,7 @@ import pathlib
 import sys
 
 import calls
+import fans
 import held
 import lowbyte
 import pairs
@@ -32,6 +33,7 @@ CODES = {
     "run under 0": (1, 6), "run under 1": (0, 2, 3, 4, 5, 6, 7), "run under 2": (0, 2, 3, 4, 5, 6, 7, 9),
     "step": (0, 3, 4, 8), "write event": (0, 3, 4, 7), "write header": (0, 2, 7), "write header of two": (0, 2, 7, 9),
     "decode under 1": (0, 3, 4), "decode under 2": (0, 3, 4), "soak": (0, 3, 4, 8, 10),
+    "fan step": (0, 4, 11), "fan duty": (0, 4), "fan preset": (0, 4),
 }
 # What judges records, and the device count under which it does.
 JUDGES = {
@@ -77,6 +79,7 @@ def need_everything(table):
     pairs.need(table)
     ranges.need(table)
     soaks.need(table)
+    fans.need(table)
 
 
 def need_refusals(table):
@@ -164,12 +167,14 @@ class Watcher:
         self.held_feeds = held.Feeds(self.table)
         self.pair_feeds = pairs.Feeds(self.table)
         self.soaks = soaks.Soaks(self.table)
+        self.fans = fans.Fans(self.table)
         parts = calls.split(stream)
         self.calls = len(parts)
         for command, times in collections.Counter(call[0] for call in parts).items():
             self.table.count(f"call: {calls.NAMES[chr(command)]}", times)
         for call, result in zip(parts, calls.split_results(parts, results)):
             self.by_command[call[0]](call, result)
+        self.fans.end()
 
     # ---- The reader ----
 
@@ -418,6 +423,17 @@ class Watcher:
         self.records += calls.number(result[3:])
         self.soaks.see(self.steps.device, calls.soak_stretch(call), result)
 
+    # ---- The fan ----
+
+    def see_fan_step(self, call, result):
+        self.fans.see_step(call, result)
+
+    def see_fan_duty(self, call, result):
+        self.fans.see_duty(call, result)
+
+    def see_fan_preset(self, call, result):
+        self.fans.see_preset(call, result)
+
     # ---- The writers and the decoder ----
 
     def see_write_event(self, call, result):
@@ -500,7 +516,7 @@ def main():
     for words in table.wrong[:WRONG_SHOWN_MOST]:
         print(f"covered: wrong: {words}")
     if table.wrong:
-        print(f"covered: {len(table.wrong)} answers are not as requests b, c and f have them")
+        print(f"covered: {len(table.wrong)} answers are not as requests b, c, f and g have them")
     return 1 if missed or table.wrong else 0
 
 

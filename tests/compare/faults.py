@@ -1,10 +1,10 @@
 #!/usr/bin/env python3
-"""faults.py [JOBS]: puts each fault of tests/compare/faults.txt into a copy of second/second.c or second/soak.c, alone, and sees
+"""faults.py [JOBS [FILE]]: puts each fault of tests/compare/faults.txt into a copy of second/second.c, soak.c or fan.c, alone, and sees
 whether the comparison notices: whether its results on the streams, or its listings, differ from those of second/ as it is.
 
-Run tests/compare.sh first: it leaves the streams and the results in build/compare. JOBS is 1 (so too if not given) or 2. Prints
-for each fault the first stream and call that notices it, and the other streams that do. Fails if one is not noticed, does not
-apply at exactly one place, or does not compile.
+Run tests/compare.sh first: it leaves the streams and the results in build/compare. JOBS is 1 (so too if not given) or 2; FILE, as
+fan.c, has the faults of that file tried and no others. Prints for each fault the first stream and call that notices it, and the other
+streams that do. Fails if one is not noticed, does not apply at exactly one place, or does not compile, or if there is none.
 """
 import concurrent.futures
 import pathlib
@@ -17,8 +17,8 @@ import calls
 ROOT = pathlib.Path(__file__).resolve().parent.parent.parent
 BUILD = ROOT / "build" / "compare"
 THEMES = ("writer", "device-ranges", "reader-ranges", "pair", "device", "reader", "runs", "listed", "soaks")
-# The files that faults are of, and the streams that call them: soaks stand in one alone.
-FILES = {"second.c": THEMES, "soak.c": ("soaks",)}
+# The files that faults are of, and the streams that call them: soaks stand in one alone, the fan in another.
+FILES = {"second.c": THEMES, "soak.c": ("soaks",), "fan.c": ("fans",)}
 SECONDS_MOST = 60
 
 
@@ -103,9 +103,10 @@ def tried(number, file, fault):
 
 
 def main():
-    jobs = 2 if sys.argv[1:] == ["2"] else 1
+    jobs = 2 if sys.argv[1:2] == ["2"] else 1
+    files = sys.argv[2:] or FILES
     text = (ROOT / "tests" / "compare" / "faults.txt").read_text()
-    faults = [(file, fault) for file, part in sections(text) for fault in read_faults(part)]
+    faults = [(file, fault) for file, part in sections(text) if file in files for fault in read_faults(part)]
     missed = 0
     print("| fault | noticed first in | also in |\n|---|---|---|")
     with concurrent.futures.ThreadPoolExecutor(max_workers=jobs) as pool:

@@ -289,6 +289,39 @@ static void soak(lm89_device device)
     put_number(soaked.read, 8);
 }
 
+static void fan_step(void)
+{
+    lm89_fan fan;
+    for (size_t entry = 0; entry < LM89_FAN_ENTRIES; entry++)
+        get(fan.table[entry], LM89_FAN_ENTRY_BYTES);
+    fan.hysteresis = (uint8_t)get_number(1);
+    fan.frequency = (uint8_t)get_number(1);
+    uint8_t earlier = (uint8_t)get_number(1);
+    int reading = (int)get_number(1);
+    lm89_driven driven = lm89_fan_step(fan, earlier, (int8_t)(reading < 128 ? reading : reading - 256));
+    put_byte(driven.code);
+    put_byte(driven.step);
+    put_byte(driven.value);
+    put_number(driven.duty, 2);
+}
+
+static void put_fan_number(lm89_number number)
+{
+    put_byte(number.code);
+    put_number(number.value, 2);
+}
+
+static void fan_duty(void)
+{
+    uint8_t frequency = (uint8_t)get_number(1);
+    put_fan_number(lm89_fan_duty(frequency, (uint8_t)get_number(1)));
+}
+
+static void fan_preset(void)
+{
+    put_fan_number(lm89_fan_preset((uint8_t)get_number(1)));
+}
+
 static void answer(lm89_reader *reader, lm89_device *device)
 {
     taken++;
@@ -307,6 +340,9 @@ static void answer(lm89_reader *reader, lm89_device *device)
     case 'B': decode(); break;
     case 'C': run(); break;
     case 'K': soak(*device); break;
+    case 'T': fan_step(); break;
+    case 'U': fan_duty(); break;
+    case 'V': fan_preset(); break;
     default: stop("there is no such call");
     }
 }

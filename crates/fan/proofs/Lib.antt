@@ -1,0 +1,4 @@
+pub mod Entries
+pub mod Signed
+pub mod Rounds
+pub mod Answers
