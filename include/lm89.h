@@ -397,7 +397,7 @@ lm89_soaked lm89_soak(lm89_device device, const uint8_t *records, size_t length)
  * The step of an LM63's fan after a reading, which is in whole degrees, -128 to 127: the high byte of a remote reading, which rounds down. `earlier` is the
  * step before it, 0 for none. The step is the highest entry whose temperature the reading reaches, or, for entries up to the earlier step, whose temperature
  * less hysteresis it reaches. To reach is to be at least as high, where the data sheet says "exceeds"; a temperature less hysteresis may lie below 0. Of
- * entries of one temperature the last is the highest; but less hysteresis it counts only up to the earlier step. No such entry means step 0 and PWM
+ * entries of one temperature the last is the highest, but entries behind the earlier step have no hysteresis. No such entry means step 0 and PWM
  * value 0. The duty is what lm89_fan_duty gives for that value at the fan's frequency. The code is
  *   LM89_CODE_FALLING (11) if a temperature is below that of the entry before it, as the bytes stand, whatever is out of its range,
  *   then LM89_CODE_OPERAND (4) if a temperature is above 127, a PWM value above 63, hysteresis or frequency above 31 or earlier above LM89_FAN_ENTRIES,

@@ -97,8 +97,8 @@ module _ (f : Fan) where
       let table = tableOf (f .table) in
       let step = step-answered e r (sym (code-given f e r) ∙ h) in
       ap (λ (k : ℕ). stepAnswerOf f k r) step
-      ∙ (same-step (stepOf table (f .hysteresis) e r) e r (step-within table (f .hysteresis) e r) (in-ranges f e r h .1 .earlier-step)
-      (steps.same-reading table (f .hysteresis) e r))
+      ∙ same-step (stepOf table (f .hysteresis) e r) e r (step-within table (f .hysteresis) e r) (in-ranges f e r h .1 .earlier-step)
+      (steps.same-reading table (f .hysteresis) e r)
 
   -- a hotter reading never gives a lower step from the same earlier step
   pub hotter-answer : (e : ℕ) (r s : ℤ) → r ≤ℤ s → stepAnswerOf f e r .step ≤ stepAnswerOf f e s .step

@@ -39,8 +39,7 @@ module _ (n : ℕ) where
   whole : (d : ℕ) → 0 < d → Nearest (10000 * d) d 10000
   whole d h = record { over = omega arith; under = omega arith; upward = λ e. absurd (omega (arith, e)) }
 
-  -- 10000 hundredths of a percent at most
-  pub duty-within : (value : ℕ) → dutyOf n value ≤ 10000
+  duty-within : (value : ℕ) → dutyOf n value ≤ 10000
   duty-within value =
       by-test (leb (2 * countedOf n) value)
       (λ t. let e = is-duty n value .all (leb-true (2 * countedOf n) value t) in omega (arith, e))
@@ -64,9 +63,8 @@ module _ (n : ℕ) where
   counted-within l =
       by-test (eqb n 0) (λ t. rw t (omega arith)) (λ t. rw t l)
 
-  -- below twice the frequency a duty is more than 0 and less than all of it, but at PWM value 0
-  pub all-exactly : (v : ℕ) → n ≤ 31 → (dutyOf n v ≡ 10000) ↔ (2 * countedOf n ≤ v)
-  all-exactly v l = (all, is-duty n v .all)
+  all-of-it : (v : ℕ) → n ≤ 31 → (dutyOf n v ≡ 10000) ↔ (2 * countedOf n ≤ v)
+  all-of-it v l = (all, is-duty n v .all)
     where
       all : dutyOf n v ≡ 10000 → 2 * countedOf n ≤ v
       all e =
@@ -76,8 +74,8 @@ module _ (n : ℕ) where
           let r : Nearest (10000 * v) (2 * countedOf n) 10000 = rw e at (is-duty n v .part h) in
           absurd (omega (arith, r .over, counted-within l)))
 
-  pub none-exactly : (v : ℕ) → n ≤ 31 → (dutyOf n v ≡ 0) ↔ (v ≡ 0)
-  none-exactly v l = (none, λ e. rw e (one-duty n 0 (dutyOf n 0) 0 (is-duty n 0) undriven))
+  none-of-it : (v : ℕ) → n ≤ 31 → (dutyOf n v ≡ 0) ↔ (v ≡ 0)
+  none-of-it v l = (none, λ e. rw e (one-duty n 0 (dutyOf n 0) 0 (is-duty n 0) undriven))
     where
       undriven : Duty n 0 0
       undriven =
@@ -131,6 +129,13 @@ preset-said n i =
     (λ t.
     let h = eqb-false (countedOf n) 1 t in
     one-nearest (3 * countedOf n) 2 (presetAnswerOf n .value) (d .value) (known .nearest h) (x .nearest h))))
+
+-- all of it exactly from twice the frequency on, and none exactly at PWM value 0
+pub all-exactly : (n v : ℕ) → DutyInRange n v → (dutyAnswerOf n v .value ≡ 10000) ↔ (2 * countedOf n ≤ v)
+all-exactly n v i = rw (duty-answered n v i) (all-of-it n v (i .0))
+
+pub none-exactly : (n v : ℕ) → DutyInRange n v → (dutyAnswerOf n v .value ≡ 0) ↔ (v ≡ 0)
+none-exactly n v i = rw (duty-answered n v i) (none-of-it n v (i .0))
 
 -- duty never falls as the PWM value rises
 pub duty-rises : (n v w : ℕ) → n ≤ 31 → v ≤ w → w ≤ 63 → dutyAnswerOf n v .value ≤ dutyAnswerOf n w .value

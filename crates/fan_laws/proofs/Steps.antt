@@ -32,7 +32,7 @@ no-lower f g n also =
 
 -- ---- an entry that stands
 
--- at a hotter reading, of a lower temperature, with a larger hysteresis, up to a later step, it stands too
+-- at a hotter reading, of a lower temperature, with a larger hysteresis, up to a higher step, it stands too
 still-stands : (t u g h : ℕ) (p q : Bool) (r s : ℤ) → u ≤ t → g ≤ h → (p ≡ true → q ≡ true) → leZ r s ≡ true
     → standsOf t g p r ≡ true → standsOf u h q s ≡ true
 unfolding standsOf
@@ -112,13 +112,13 @@ module _ (table : List (List ℕ)) where
   pub held-longer : (g h e : ℕ) (r : ℤ) → g ≤ h → stepOf table g e r ≤ stepOf table h e r
   held-longer g h e r l = no-lower-step g h e e r r l (omega arith) (reading-itself r)
 
-  -- without hysteresis the earlier step does not matter
   plainly : (d e : ℕ) (r : ℤ) → stepOf table 0 d r ≤ stepOf table 0 e r
   unfolding stepOf
   plainly d e r =
       no-lower (entryStands table 0 d r) (entryStands table 0 e r) 8
       (λ k p. plainly-stands (temperatureOf table k) 0 (leb k d) (leb k e) r)
 
+  -- without hysteresis the earlier step does not matter
   pub no-hysteresis : (d e : ℕ) (r : ℤ) → stepOf table 0 d r ≡ stepOf table 0 e r
   no-hysteresis d e r = omega (arith, plainly d e r, plainly e d r)
 
@@ -130,7 +130,7 @@ module _ (table : List (List ℕ)) where
       (λ t. clash (sym n ∙ or-left _ _ t))
       (λ t. rw (t, lt-leb k e l))
 
-  -- a step stays if it stands, and the earlier step is no later than it
+  -- a step stays if it stands, and the earlier step is no higher
   stays : (g h d e : ℕ) (r : ℤ) → e ≤ stepOf table g d r → (0 < stepOf table g d r → entryStands table h e r (stepOf table g d r) ≡ true)
       → stepOf table h e r ≡ stepOf table g d r
   stays g h d e r l holds =

@@ -40,5 +40,7 @@ abbrev pub PresetInRange : ℕ → Type 0
 PresetInRange frequency = frequency ≤ 31
 
 pub data NumberGives (inRange : Type 0) : ℕ → Type 0 where
+  -- 4: a number is out of its range
   none : (inRange → ⊥) → NumberGives inRange 4
+  -- 0: none is
   some : inRange → NumberGives inRange 0
