@@ -1,7 +1,7 @@
 /*
  * The fan of a board with an LM63: which entry of its lookup table is in force as the board warms up and cools down, the PWM value of that entry and its
- * duty. An entry comes into force at its temperature and stays until the reading is below that less hysteresis: 63 degrees mean entry 4 on the way down
- * from 66, and entry 3 on the way up from 60. examples/bench.c shows the test of the library's version.
+ * duty. An entry comes into force at its temperature and stays, unless a higher one does, until the reading is below that less hysteresis: 63 degrees mean
+ * entry 4 on the way down from 66, and entry 3 on the way up from 60. examples/bench.c shows the test of the library's version.
  */
 #include <stdio.h>
 #include <stdlib.h>
@@ -9,7 +9,7 @@
 #include "lm89.h"
 
 #define HYSTERESIS 4   /* degrees, as at power-on */
-#define FREQUENCY 20   /* a PWM value of twice that is a duty of 100 percent */
+#define FREQUENCY 20   /* a PWM value of twice that or more is a duty of 100 percent */
 #define HUNDREDTHS 100 /* duties are in hundredths of a percent */
 
 /* The data sheet's example, temperature and PWM value. Its page prints nine rows for a table of eight entries: the row of 25 degrees is left out. */

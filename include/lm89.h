@@ -284,7 +284,7 @@ typedef struct {
     uint64_t read; /* records read, a refused one among them; 0 on LM89_CODE_RANGE, LM89_CODE_STANDBY and a length that is no multiple of LM89_RECORD_BYTES */
 } lm89_soaked;
 
-/* The fan table: its entries, and the two bytes of each. LM89_FAN_ALL is a duty of 100 percent. */
+/* Of the fan table: how many entries it has, the places of an entry's two bytes, and their number. LM89_FAN_ALL is a duty of 100 percent. */
 enum {
     LM89_FAN_ENTRIES = 8,
     LM89_FAN_TEMPERATURE = 0,
@@ -394,24 +394,26 @@ lm89_device lm89_power_on(uint8_t variant);
 lm89_soaked lm89_soak(lm89_device device, const uint8_t *records, size_t length);
 
 /*
- * The step of an LM63's fan after a reading, which is in whole degrees, -128 to 127: the high byte of a remote reading, which rounds down. `earlier` is the
- * step before it, 0 for none. The step is the highest entry whose temperature the reading reaches, or, for entries up to the earlier step, whose temperature
- * less hysteresis it reaches. To reach is to be at least as high, where the data sheet says "exceeds"; a temperature less hysteresis may lie below 0. Of
- * entries of one temperature the last is the highest, but entries behind the earlier step have no hysteresis. No such entry means step 0 and PWM
- * value 0. The duty is what lm89_fan_duty gives for that value at the fan's frequency. The code is
+ * The step of an LM63's fan after a reading in whole degrees, -128 to 127. How eighths become whole degrees is the caller's matter; the high byte of a
+ * remote reading rounds down. `earlier` is the step before it, 0 for none. The step is the highest entry whose temperature the reading reaches, or, for
+ * entries up to the earlier step, whose temperature less hysteresis it reaches. To reach is to be at least as high, where the data sheet says "exceeds"; a
+ * temperature less hysteresis may lie below 0. Of entries with the same temperature the last is the highest; but an entry above the earlier step has to be
+ * reached at its full temperature. No such entry means step 0 and PWM value 0. The duty is what lm89_fan_duty gives for that value at the fan's frequency.
+ * The code is
  *   LM89_CODE_FALLING (11) if a temperature is below that of the entry before it, as the bytes stand, whatever is out of its range,
  *   then LM89_CODE_OPERAND (4) if a temperature is above 127, a PWM value above 63, hysteresis or frequency above 31 or earlier above LM89_FAN_ENTRIES,
  *     whether or not the step hangs on it,
  *   else LM89_CODE_DONE (0).
- * On another code than 0 `step` is 0 and is no step: keep the earlier one. With the same fan and the same reading the step of an answer with code 0, handed
+ * On a code other than 0 `step` is 0 and is no step: keep the earlier one. With the same fan and the same reading the step of an answer with code 0, handed
  * back as `earlier`, does not change, nor does the rest of that answer. With the same fan and the same `earlier` a hotter reading never gives a lower step;
  * a PWM value, and with it the duty, may be lower, where the table has it so.
  */
 lm89_driven lm89_fan_step(lm89_fan fan, uint8_t earlier, int8_t reading);
 
 /*
- * The duty of a PWM value in hundredths of a percent: value over twice the frequency, LM89_FAN_ALL where value is that or more, to the nearest
- * hundredth, ties upward; a frequency of 0 counts as 1. LM89_CODE_OPERAND (4) if frequency is above 31 or value above 63, else LM89_CODE_DONE (0).
+ * The duty of a PWM value in hundredths of a percent: value over twice the frequency, LM89_FAN_ALL where value is twice the frequency or more,
+ * to the nearest hundredth, ties upward; a frequency of 0 counts as 1. LM89_CODE_OPERAND (4) if frequency is above 31 or value above 63, else
+ * LM89_CODE_DONE (0).
  */
 lm89_number lm89_fan_duty(uint8_t frequency, uint8_t value);
 

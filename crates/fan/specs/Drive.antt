@@ -11,7 +11,7 @@ countedOf n = cond (eqb n 0) 1 n
 
 -- ---- rounding
 
--- d is at most a half from a / b, ties upward: at most a half above it, at most a half below it, and not exactly a half below: that is a tie gone downward
+-- d is at most a half from the fraction a / b, ties upward: at most a half above it, at most a half below it, and not exactly a half below it
 pub record Nearest (a b d : ℕ) : Type 0 where
   pub over : 2 * (d * b) ≤ 2 * a + b
   pub under : 2 * a ≤ 2 * (d * b) + b

@@ -1,4 +1,4 @@
--- Request g: what the three calls answer.
+-- Request g: what the three calls answer. A fan, an answer of a step and a number are the structs of src/lib.rt.
 -- Assumes nothing.
 use Prim.Native.Nat.{ℕ}
 use mathlib.Core.Bool.{_||_, cond}

@@ -1,5 +1,5 @@
 -- Request g, the fan table of source document 000. Entries are numbered 1 to 8, as the page has them: step k is entry k, and step 0 is none. Temperatures are
--- whole degrees; a reading is signed, and a temperature less hysteresis goes below 0 with no wrap.
+-- whole degrees; a reading is one of -128 to 127, and a temperature less hysteresis goes below 0 with no wrap.
 -- Assumes nothing.
 use Prim.Native.Nat.{ℕ, zero, suc, _+_, _*_, _≤_, _<_}
 use mathlib.Core.Path.{_≡_}
@@ -30,11 +30,11 @@ valueOf table k = getD (entryOf table k) 1 0
 
 -- ---- the step after a reading
 
--- a reading reaches a temperature: it is at or above it, where the page says that it exceeds
+-- a reading reaches a temperature: it is at or above it (the request's "reach"; the page says "exceeds")
 abbrev pub reaches : ℤ → ℤ → Bool
 reaches reading temperature = leZ temperature reading
 
--- an entry's temperature is reached, or, for an entry up to the earlier step, its temperature less hysteresis
+-- an entry stands: its temperature is reached, or, for an entry up to the earlier step, its temperature less hysteresis
 unfoldable pub standsOf : ℕ → ℕ → Bool → ℤ → Bool
 standsOf temperature hysteresis upTo reading = reaches reading (pos temperature) || (upTo && reaches reading (pos temperature -ℤ pos hysteresis))
 
