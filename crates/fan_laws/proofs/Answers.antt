@@ -4,12 +4,12 @@
 -- Assumes nothing.
 use mathlib.Core.Path.{_≡_, refl, sym, ap, subst, _∙_}
 use mathlib.Core.Logic.{_↔_}
-use Prim.Native.Nat.{ℕ, zero, suc, _≤_, _<_}
+use Prim.Native.Nat.{ℕ, _≤_}
 use native.Mathlib.Omega.{arith}
-use lib.Dec.{eqb}
+use lib.Dec.{ltb, eqb}
 use lib.IntN.{ℤ}
 use lib.Signed.{_≤ℤ_}
-use borrow.Author.Tests.{eqb-true, eqb-false, le-ltb}
+use borrow.Author.Tests.{eqb-true, eqb-false, ltb-true, ltb-false, le-ltb}
 use Rattle.laws.proofs.Choices.{by-test}
 use Rattle.laws.proofs.Exactly.{by-lines}
 use Rattle.fan.specs.declared.Fan.{Fan}
@@ -116,11 +116,10 @@ module _ (f : Fan) where
   no-hysteresis-answer z d e r l m = same-step d e r l m (rw z (steps.no-hysteresis (tableOf (f .table)) d e r))
 
   value-within : (e : ℕ) → InRange f e → (s : ℕ) → s ≤ 8 → valueOf (tableOf (f .table)) s ≤ 63
-  value-within e range s l = by-test (eqb s 0) (λ t. rw (eqb-true s 0 t) (omega arith)) (λ t. range .values s (positive s (eqb-false s 0 t)) l)
-    where
-      positive : (s : ℕ) → (s ≡ 0 → ⊥) → 0 < s
-      positive zero h = absurd (h refl)
-      positive (suc s) h = omega arith
+  value-within e range s l =
+      by-test (ltb 0 s)
+      (λ t. range .values s (ltb-true 0 s t) l)
+      (λ t. let none : s ≡ 0 = omega (arith, ltb-false 0 s t) in rw none (omega arith))
 
   -- the duty of an answer is the one that its PWM value gets by itself at that frequency
   pub duty-answer : (e : ℕ) (r : ℤ) → stepAnswerOf f e r .code ≡ 0

@@ -6,6 +6,7 @@ use mathlib.Core.Path.{_≡_, refl}
 use mathlib.Core.Bool.{Bool, cond}
 use mathlib.Core.List.{List, [], _∷_, map}
 use lib.Dec.{ltb, eqb}
+use Rattle.laws.proofs.Tables.{tabulate}
 use Rattle.fan.specs.declared.Number.{Number}
 use Rattle.fan.specs.Drive.{nearestOf, dutyOf}
 use Rattle.fan.specs.Fan.{dutyAnswerOf, presetAnswerOf}
@@ -73,9 +74,8 @@ page =
     row 31 (hundredths 161) 62 47 31 (hundredths 7581) ∷
     []
 
--- every frequency of the page but 0, in order
-pub frequencies : map (λ (r : Row). r .frequency) page
-    ≡ 1 ∷ 2 ∷ 3 ∷ 4 ∷ 5 ∷ 6 ∷ 7 ∷ 8 ∷ 9 ∷ 10 ∷ 11 ∷ 12 ∷ 13 ∷ 14 ∷ 15 ∷ 16 ∷ 17 ∷ 18 ∷ 19 ∷ 20 ∷ 21 ∷ 22 ∷ 23 ∷ 24 ∷ 25 ∷ 26 ∷ 27 ∷ 28 ∷ 29 ∷ 30 ∷ 31 ∷ []
+-- every frequency of the page but 0, in order: 31 numbers from 1 on
+pub frequencies : map (λ (r : Row). r .frequency) page ≡ tabulate (λ (n : ℕ). n) 1 31
 frequencies = refl
 
 -- an answer with this number
