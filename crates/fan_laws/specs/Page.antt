@@ -1,12 +1,11 @@
 -- Source document 000, "Fan control duty cycle vs. register settings and frequency": the columns that speak of duty, as printed, frequencies 1 to 31. The row
 -- of 0 says that it is mapped to 1.
 -- Assumes nothing.
-use Prim.Native.Nat.{ℕ, _-_, _*_}
+use Prim.Native.Nat.{ℕ, zero, suc, _-_, _*_}
 use mathlib.Core.Path.{_≡_, refl}
 use mathlib.Core.Bool.{Bool, cond}
 use mathlib.Core.List.{List, [], _∷_, map}
 use lib.Dec.{ltb, eqb}
-use Rattle.laws.proofs.Tables.{tabulate}
 use Rattle.fan.specs.declared.Number.{Number}
 use Rattle.fan.specs.Drive.{nearestOf, dutyOf}
 use Rattle.fan.specs.Fan.{dutyAnswerOf, presetAnswerOf}
@@ -74,8 +73,13 @@ page =
     row 31 (hundredths 161) 62 47 31 (hundredths 7581) ∷
     []
 
--- every frequency of the page but 0, in order: 31 numbers from 1 on
-pub frequencies : map (λ (r : Row). r .frequency) page ≡ tabulate (λ (n : ℕ). n) 1 31
+-- n numbers, from i on
+abbrev numbers : ℕ → ℕ → List ℕ
+numbers i zero = []
+numbers i (suc n) = i ∷ numbers (suc i) n
+
+-- every frequency of the page but 0, in order: 1 to 31
+pub frequencies : map (λ (r : Row). r .frequency) page ≡ numbers 1 31
 frequencies = refl
 
 -- an answer with this number
