@@ -33,7 +33,7 @@ back h t = to_z-of_z (fits16 h t)
 
 -- of a call's signed result: `same c.f.result c.f.ok`
 pub same : (z : ℤ) → mag z < 2 ^ 15 → to_z w16 (of_z w16 z) ≡ z
-same z h = to_z-of_z (record { sfits = h })
+same z h = to_z-of_z {w = w16} (record { sfits = h })
 
 -- ---- sums, differences, eight times
 

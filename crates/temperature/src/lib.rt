@@ -1,3 +1,4 @@
+#![tactic(auto)]
 // Temperatures (P1 to P3, request b): two's complement bytes, signed eighths of a degree, and their comparisons.
 ghost use Rattle.std.specs.Prelude.{◌≡◌};
 ghost use Rattle.temperature.specs.Temperature.{degrees_of, eighths_of, held_of, held_sum_of, open_reading, above_of, below_of, cleared_of};
