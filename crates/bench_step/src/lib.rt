@@ -8,7 +8,7 @@ use record::Record;
 
 // A step's code and its two answer bytes.
 #[repr(C)]
-#[derive(Drop)]
+#[derive(Clone, Copy)]
 pub struct Answer {
     pub code: u8,
     pub first: u8,
@@ -16,7 +16,7 @@ pub struct Answer {
 }
 
 // The device after a step, and the step's answer.
-#[derive(Drop)]
+#[derive(Clone, Copy)]
 pub struct Taken {
     pub device: Device,
     pub answer: Answer,

@@ -11,7 +11,7 @@ mod taking;
 
 // Header bytes taken, record count so far, records done, record bytes carried, a lasting code or 0, and the bus.
 #[repr(C)]
-#[derive(Drop)]
+#[derive(Clone, Copy)]
 pub struct Reader {
     pub head: u8,
     pub count: u32,
@@ -23,7 +23,7 @@ pub struct Reader {
 }
 
 // The state before a byte of the input.
-#[derive(Drop)]
+#[derive(Clone, Copy)]
 pub struct Ahead {
     pub reader: Reader,
     pub at: usize,
@@ -31,7 +31,7 @@ pub struct Ahead {
 
 // What a call reports.
 #[repr(C)]
-#[derive(Drop)]
+#[derive(Clone, Copy)]
 pub struct Fed {
     pub consumed: usize,
     pub written: usize,

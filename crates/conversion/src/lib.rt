@@ -7,7 +7,7 @@ use temperature::Reading;
 
 // All that only conversions and power-on move. Readings: remote in eighths; local in degrees, a byte. No padding but at the end.
 #[repr(C)]
-#[derive(Drop)]
+#[derive(Clone, Copy)]
 pub struct Sensed {
     pub remote: i16,
     pub local: u8,
@@ -18,7 +18,7 @@ pub struct Sensed {
 }
 
 // A channel's limits, in eighths.
-#[derive(Drop)]
+#[derive(Clone, Copy)]
 pub struct Limits {
     pub high: i16,
     pub low: i16,
@@ -26,7 +26,7 @@ pub struct Limits {
 }
 
 // Which limits a reading is out of.
-#[derive(Drop)]
+#[derive(Clone, Copy)]
 pub struct Out {
     pub high: bool,
     pub low: bool,

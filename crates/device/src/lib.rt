@@ -12,7 +12,7 @@ pub mod ranges;
 
 // The fourteen settings stand in rising order of their write addresses; `low` is the byte kept at a read of 01, if one is.
 #[repr(C)]
-#[derive(Drop)]
+#[derive(Clone, Copy)]
 pub struct Device {
     pub sensed: Sensed,
     pub variant: u8,
@@ -25,7 +25,7 @@ pub struct Device {
 }
 
 // Address, register and value; local byte, remote high and low byte: raw, as in a record. The last two are conversions of a bus's second device.
-#[derive(Drop)]
+#[derive(Clone, Copy)]
 pub enum Event {
     Write(u8, u8, u8),
     Read(u8, u8),
@@ -39,7 +39,7 @@ pub enum Event {
 }
 
 // What an event asks of the device at hand. Sense: local byte, remote reading in eighths and whether it was held (a struct in the enum is slower), diode open.
-#[derive(Drop)]
+#[derive(Clone, Copy)]
 pub enum Asked {
     Put(u8, u8),
     Get(u8),
@@ -51,7 +51,7 @@ pub enum Asked {
 }
 
 // What an event does: a conversion taken, its reading held; the device after it; acknowledged, and the byte read or 0. In the fastest order.
-#[derive(Drop)]
+#[derive(Clone, Copy)]
 pub struct Outcome {
     pub taken: bool,
     pub held: bool,
@@ -60,14 +60,14 @@ pub struct Outcome {
     pub byte: u8,
 }
 
-#[derive(Drop)]
+#[derive(Clone, Copy)]
 pub struct Pins {
     pub alert: bool,
     pub tcrit: bool,
 }
 
 // A step's code, its two answer bytes and the device after it.
-#[derive(Drop)]
+#[derive(Clone, Copy)]
 pub struct Stepped {
     pub code: u8,
     pub first: u8,

@@ -18,7 +18,7 @@ const POWER_ON: u8 = 7;
 const CONVERSION_2: u8 = 8;
 
 // How many devices, which is at hand, whether both restart, and of the other its address and its lines.
-#[derive(Drop)]
+#[derive(Clone, Copy)]
 pub struct Hand {
     pub devices: u8,
     pub second: bool,

@@ -10,7 +10,7 @@ pub mod response;
 
 // How many devices, and the two; a second that is absent is all zeros.
 #[repr(C)]
-#[derive(Drop)]
+#[derive(Clone, Copy)]
 pub struct Bus {
     pub devices: u8,
     pub first: Device,
@@ -18,7 +18,7 @@ pub struct Bus {
 }
 
 // The devices that an event names.
-#[derive(Drop)]
+#[derive(Clone, Copy)]
 pub enum Named {
     Neither,
     First,

@@ -6,14 +6,14 @@ ghost use Rattle.record.specs.Writer.{count_bytes_of, header_of, one_address_of,
 use device::Event;
 
 // Why a record is refused.
-#[derive(Drop)]
+#[derive(Clone, Copy)]
 pub enum Refusal {
     Kind,
     Operand,
 }
 
 // A record is either one event or a refusal.
-#[derive(Drop)]
+#[derive(Clone, Copy)]
 pub enum Record {
     Valid(Event),
     Refused(Refusal),

@@ -18,7 +18,7 @@ const OPEN: u8 = 6;
 
 // A code, whether T_CRIT_A is pulled, and how many records were read, a refused one among them.
 #[repr(C)]
-#[derive(Drop)]
+#[derive(Clone, Copy)]
 pub struct Soaked {
     pub code: u8,
     pub pulled: bool,
@@ -26,14 +26,14 @@ pub struct Soaked {
 }
 
 // What the records read make of an earlier latch: of a clear one and of a set one.
-#[derive(Drop)]
+#[derive(Clone, Copy)]
 pub struct Made {
     pub clear: bool,
     pub set: bool,
 }
 
 // What they make of it on each channel; on the remote one by the earlier fault count, 2 and 3 alike: a further fault makes 3 of both.
-#[derive(Drop)]
+#[derive(Clone, Copy)]
 pub struct Ends {
     pub local: Made,
     pub none: Made,

@@ -27,7 +27,7 @@ pub fn eighths(high: u8, low: u8) -> i16
 }
 
 // A remote reading, and whether its sum was held at an end of the scale.
-#[derive(Drop)]
+#[derive(Clone, Copy)]
 pub struct Reading {
     pub eighths: i16,
     pub held: bool,
