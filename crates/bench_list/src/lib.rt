@@ -1,3 +1,4 @@
+#![tactic(auto)]
 // The listing of a capture, from one file descriptor to another, for C.
 ghost use Rattle.listing_loop.specs.List.{Lists};
 

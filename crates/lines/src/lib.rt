@@ -1,3 +1,4 @@
+#![tactic(auto)]
 // The listing's lines, as bytes in a lent buffer.
 ghost use Rattle.std.specs.Prelude.{◌≡◌, ◌++◌};
 ghost use Rattle.lines.specs.Lines.{digit_of, hex_of, ten_digits, zeros_of, decimal_of, line_of, end_line_of, Lined, LinesLaid};
@@ -64,10 +65,11 @@ fn put(word: &[u8], n: u32, tail: &[u8], room: &mut [u8]) -> usize
     if size - b < tail.len() {
         return 0;
     }
-    bytes::copy(word, room);
-    bytes::copy(&digits[skip..], &mut room[a..]);
-    bytes::copy(tail, &mut room[b..]);
-    b + tail.len()
+    let c = b + tail.len();
+    room[..a].copy_from_slice(word);
+    room[a..b].copy_from_slice(&digits[skip..]);
+    room[b..c].copy_from_slice(tail);
+    c
 }
 
 // A record's line: its number and its two answer bytes; 0 where there is no room for it.

@@ -1,3 +1,4 @@
+#![tactic(auto)]
 // Lists a capture from standard input: a line for each record, and the end line.
 use libc::{STDERR_FILENO, STDIN_FILENO, STDOUT_FILENO};
 

@@ -1,3 +1,4 @@
+#![tactic(auto)]
 // The listing of a capture, from one file descriptor to another.
 ghost use Rattle.std.specs.Prelude.{◌≡◌, ◌≤◌, length};
 ghost use Rattle.lines_laws.specs.Turns.{read_most, text_room, end_room};
