@@ -1,3 +1,5 @@
+#![tactic(auto)]
+
 // The library's version, for C.
 ghost use Rattle.std.specs.Prelude.{◌≡◌};
 ghost use Rattle.bench_version.specs.Version.{version_of};

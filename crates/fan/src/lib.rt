@@ -1,3 +1,5 @@
+#![tactic(auto)]
+
 // The fan side of the LM63 (request g): a table of eight steps, the duty of a PWM value and the preset of about 75 percent. It stands beside the sensor.
 ghost use Rattle.std.specs.Prelude.{◌≡◌};
 ghost use Rattle.fan.specs.Fan.{code_of, refuses_of, step_answer_of, duty_answer_of, preset_answer_of};

@@ -1,3 +1,5 @@
+#![tactic(auto)]
+
 // Fan speeds from the stamps of a tachometer's edges, one a revolution (request h). It stands beside the sensor.
 ghost use Rattle.std.specs.Prelude.{◌≡◌, min, max, if◌then◌else◌, ◌≢◌, nat_lt};
 ghost use Rattle.tach.specs.Stamps.{period_of, speed_of};
