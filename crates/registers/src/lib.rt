@@ -1,3 +1,5 @@
+#![tactic(auto)]
+
 // The registers: which are readable and writable, the fourteen settable bytes, kept bits and power-on bytes. What a number is asked
 // for stands in the rows of `page`.
 ghost use Rattle.std.specs.Prelude.{◌≡◌};
