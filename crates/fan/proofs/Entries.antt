@@ -1,4 +1,4 @@
--- Entries up to a number: the highest that a test holds of, `highest-exactly`, and whether it holds of some, one entry more at a time.
+-- Entries up to a number: the highest that a test holds of, `highest_exactly`, and whether it holds of some, one entry more at a time.
 -- Assumes nothing.
 use mathlib.Core.Path.{◌≡◌, refl, sym, ◌∙◌}
 use mathlib.Core.Logic.{◌↔◌}

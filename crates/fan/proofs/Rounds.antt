@@ -1,4 +1,4 @@
--- Rounding to the nearest, ties upward: `nearest-exactly`. Duty is what it rounds to: `duty-exactly`.
+-- Rounding to the nearest, ties upward: `nearest_exactly`. Duty is what it rounds to: `duty_exactly`.
 -- Assumes nothing.
 use mathlib.Core.Path.{◌≡◌, refl, sym, ◌∙◌}
 use mathlib.Core.Logic.{◌↔◌}

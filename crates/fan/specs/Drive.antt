@@ -14,7 +14,7 @@ pub record Nearest (a b d : ℕ) : Type 0 where
   pub under : 2 * a ≤ 2 * (d * b) + b
   pub upward : 2 * a ≡ 2 * (d * b) + b → ⊥
 
--- the same to be computed, for b above 0 (proofs/Rounds.antt: nearest-exactly)
+-- the same to be computed, for b above 0 (proofs/Rounds.antt: nearest_exactly)
 abbrev pub nearest_of : ℕ → ℕ → ℕ
 nearest_of a b = (2 * a + b) / (2 * b)
 
@@ -25,7 +25,7 @@ pub record Duty (n value d : ℕ) : Type 0 where
   pub part : value < 2 * counted_of n → Nearest (10000 * value) (2 * counted_of n) d
   pub all : 2 * counted_of n ≤ value → d ≡ 10000
 
--- the same to be computed (proofs/Rounds.antt: duty-exactly)
+-- the same to be computed (proofs/Rounds.antt: duty_exactly)
 unfoldable pub duty_of : ℕ → ℕ → ℕ
 duty_of n value = cond (leb (2 * counted_of n) value) 10000 (nearest_of (10000 * value) (2 * counted_of n))
 

@@ -41,7 +41,7 @@ pub record Highest (f : ℕ → Bool) (n s : ℕ) : Type 0 where
   pub holds : 0 < s → f s ≡ true
   pub above : (k : ℕ) → s < k → k ≤ n → f k ≡ false
 
--- the same to be computed (proofs/Entries.antt: highest-exactly)
+-- the same to be computed (proofs/Entries.antt: highest_exactly)
 unfoldable pub highest : (ℕ → Bool) → ℕ → ℕ
 highest f zero = 0
 highest f (suc n) = cond (f (suc n)) (suc n) (highest f n)

@@ -1,6 +1,6 @@
--- What is accepted is answered in the request's words, `drives-exactly`. Handed back with the same reading an answer comes again, `same_answer`; a hotter
--- reading never answers a lower step, `hotter-answer`; without hysteresis the earlier step does not matter, `no-hysteresis-answer`; the duty is that of the
--- PWM value by itself, `duty-answer`.
+-- What is accepted is answered in the request's words, `drives_exactly`. Handed back with the same reading an answer comes again, `same_answer`; a hotter
+-- reading never answers a lower step, `hotter_answer`; without hysteresis the earlier step does not matter, `no_hysteresis_answer`; the duty is that of the
+-- PWM value by itself, `duty_answer`.
 -- Assumes nothing.
 use mathlib.Core.Path.{◌≡◌, refl, sym, ap, subst, ◌∙◌}
 use mathlib.Core.Logic.{◌↔◌}

@@ -1,5 +1,5 @@
--- Each code is given exactly when its line says so: `codes` of a step, `duty-codes` and `preset-codes`. A refusal has 0 in every other number: `refused`,
--- `duty-refused`, `preset-refused`. What is not refused is the duty or the preset: `duty-answered`, `preset-answered`.
+-- Each code is given exactly when its line says so: `codes` of a step, `duty_codes` and `preset_codes`. A refusal has 0 in every other number: `refused`,
+-- `duty_refused`, `preset_refused`. What is not refused is the duty or the preset: `duty_answered`, `preset_answered`.
 -- Assumes nothing.
 use mathlib.Core.Path.{◌≡◌, refl, sym, ap, ◌∙◌}
 use mathlib.Core.Logic.{◌↔◌}

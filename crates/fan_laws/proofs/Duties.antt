@@ -1,6 +1,6 @@
--- What is answered in the ranges is the duty, `duty-said`, or the preset, `preset-said`, in the request's words. Duty never falls as the PWM value rises,
--- `duty-rises`; it is all of it exactly from twice the frequency on, `all-exactly`, and none exactly at PWM value 0, `none-exactly`. Frequency 0 counts as 1:
--- `zero-duty`, `zero-step`.
+-- What is answered in the ranges is the duty, `duty_said`, or the preset, `preset_said`, in the request's words. Duty never falls as the PWM value rises,
+-- `duty_rises`; it is all of it exactly from twice the frequency on, `all_exactly`, and none exactly at PWM value 0, `none_exactly`. Frequency 0 counts as 1:
+-- `zero_duty`, `zero_step`.
 -- Assumes nothing.
 use mathlib.Core.Path.{◌≡◌, refl, sym, ◌∙◌}
 use mathlib.Core.Logic.{◌↔◌}

@@ -1,4 +1,4 @@
--- What a reading reaches, ordered by the reading, the temperature and the hysteresis. A temperature less hysteresis in whole numbers: `less-pos`, `less-neg`.
+-- What a reading reaches, ordered by the reading, the temperature and the hysteresis. A temperature less hysteresis in whole numbers: `less_pos`, `less_neg`.
 -- Assumes nothing.
 use mathlib.Core.Path.{◌≡◌, refl, sym, subst, ◌∙◌}
 use mathlib.Core.Bool.{true}

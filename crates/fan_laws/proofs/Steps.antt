@@ -1,5 +1,5 @@
--- The step after a reading is the highest entry that stands, `step-exactly`. It never changes when the same reading comes twice, `same-reading`; a hotter
--- reading never gives a lower step from the same earlier step, `hotter`; without hysteresis the earlier step does not matter, `no-hysteresis`.
+-- The step after a reading is the highest entry that stands, `step_exactly`. It never changes when the same reading comes twice, `same_reading`; a hotter
+-- reading never gives a lower step from the same earlier step, `hotter`; without hysteresis the earlier step does not matter, `no_hysteresis`.
 -- Assumes nothing.
 use mathlib.Core.Path.{◌≡◌, refl, sym, ◌∙◌}
 use mathlib.Core.Logic.{◌↔◌, ◌⊎◌, inl, inr, ⊎_elim}

@@ -1,5 +1,5 @@
--- What is accepted is answered in words about places, `reports-exactly`, and given true distances of 1 to 65,535 ticks it is those of the true distances that
--- are told, `true-answer`.
+-- What is accepted is answered in words about places, `reports_exactly`, and given true distances of 1 to 65,535 ticks it is those of the true distances that
+-- are told, `true_answer`.
 -- Assumes nothing.
 use mathlib.Core.Path.{◌≡◌, refl, sym, ap, subst, ◌∙◌}
 use mathlib.Core.Logic.{◌↔◌}

@@ -1,5 +1,5 @@
--- A code is given exactly if its line holds, `codes`: 12 exactly for fewer than two stamps, `few-exactly`; 13 exactly for two equal neighbours,
--- `equal-exactly`. A refusal tells nothing else, `refuses-few`, `refuses-equal`.
+-- A code is given exactly if its line holds, `codes`: 12 exactly for fewer than two stamps, `few_exactly`; 13 exactly for two equal neighbours,
+-- `equal_exactly`. A refusal tells nothing else, `refuses_few`, `refuses_equal`.
 -- Assumes nothing.
 use mathlib.Core.Path.{◌≡◌, sym, subst, ◌∙◌}
 use mathlib.Core.Logic.{◌↔◌}

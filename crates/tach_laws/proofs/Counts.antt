@@ -1,4 +1,4 @@
--- The list of the places at which a test holds: how many there are is one number, `one-count`, and it is the one that is counted, `counted`.
+-- The list of the places at which a test holds: how many there are is one number, `one_count`, and it is the one that is counted, `counted`.
 -- Assumes nothing.
 use mathlib.Core.Path.{◌≡◌, refl, sym, ap, subst, ◌∙◌}
 use mathlib.Core.Logic.{◌⊎◌, inl, inr, ⊎_elim}

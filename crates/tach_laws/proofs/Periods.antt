@@ -1,5 +1,5 @@
--- Two stamps: the period is the later less the earlier going round, `going-round`, and the speed is rounded down, `rounded-down`. Given true distances of 1 to
--- 65,535 ticks the periods of a run of stamps are the true ones, `true-periods`; that of two stamps is the true one only then, `true-exactly`.
+-- Two stamps: the period is the later less the earlier going round, `going_round`, and the speed is rounded down, `rounded_down`. Given true distances of 1 to
+-- 65,535 ticks the periods of a run of stamps are the true ones, `true_periods`; that of two stamps is the true one only then, `true_exactly`.
 -- Assumes nothing.
 use mathlib.Core.Path.{◌≡◌, refl, ap}
 use mathlib.Core.Logic.{◌↔◌}

@@ -1,5 +1,5 @@
--- Of what is accepted each period goes round and each speed is rounded down, `each-place`. The numbers that are told keep to their ranges, `in-range`,
--- `under-fits`; no speed is under a floor of 0, `no-floor`, and every one is under a floor above that of one tick, `top-floor`.
+-- Of what is accepted each period goes round and each speed is rounded down, `each_place`. The numbers that are told keep to their ranges, `in_range`,
+-- `under_fits`; no speed is under a floor of 0, `no_floor`, and every one is under a floor above that of one tick, `top_floor`.
 -- Assumes nothing.
 use mathlib.Core.Path.{◌≡◌, refl, sym, ap, ◌∙◌}
 use mathlib.Core.List.{List, [], ◌∷◌}
