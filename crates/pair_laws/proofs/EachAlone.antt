@@ -138,21 +138,22 @@ outcomes_alone d (s ∷ ss) = split s.seen (λ n. outcomes_alone n ss)
 
 pub device_alone : {p : Bus} → Two p → (es : List Event) (second : Bool)
     → picked_of (bus_after p es) second ≡ device_after (picked_of p second) (seen_of (sights_of p second es))
-device_alone t [] second = refl
+device_alone {p} t [] second = refl
 device_alone {p} t (e ∷ es) second =
     let rest = sights_of (bus_effect_of p e).bus second es in
-    device_alone (still_two t e) es second
+    device_alone {p = (bus_effect_of p e).bus} (still_two t e) es second
     ∙ ap (λ (d : Device). device_after d (seen_of rest)) (after t second e)
     ∙ seen_after rest (picked_of p second) (sight_of p second e)
 
 pub rows_together : {p : Bus} → Two p → (es : List Event)
     → done_in p es ≡ together_in p.devices (does_in p.first (sights_of p false es)) (does_in p.second (sights_of p true es))
-rows_together t [] = refl
+rows_together {p} t [] = refl
 rows_together {p} t (e ∷ es) =
     let q = (bus_effect_of p e).bus in
     let one = does_of p.first (sight_of p false e) in
     let other = does_of p.second (sight_of p true e) in
-    let rest = rows_together (still_two t e) es ∙ from (same_count p e) (after t false e) (after t true e) (sights_of q false es) (sights_of q true es) in
+    let rest = rows_together {p = (bus_effect_of p e).bus} (still_two t e) es
+    ∙ from (same_count p e) (after t false e) (after t true e) (sights_of q false es) (sights_of q true es) in
     ap (λ (os : List Done). bus_effect_of p e ∷ os) rest
     ∙ ap (λ (o : Done). o ∷ together_in p.devices (does_in one.device (sights_of q false es)) (does_in other.device (sights_of q true es))) (each t e)
   where
