@@ -1,3 +1,4 @@
+#![tactic(auto)]
 // The register machine: one device, one event, by value.
 ghost use Rattle.std.specs.Prelude.{◌≡◌};
 ghost use Rattle.device.specs.Step.{effect_of, answer_of, step_of, refused_of};

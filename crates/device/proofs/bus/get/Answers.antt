@@ -1,0 +1,28 @@
+use mathlib.Core.Path.{sym, ap, ◌∙◌}
+use Rattle.registers.specs.Page.{setting_of}
+use Rattle.registers.proofs.Settings.{somewhere, read_below, settable_position}
+use Rattle.device.specs.Bus.{low_read_of, read_only_value_of, value_of, get_of}
+use Rattle.device.proofs.AfterRead.{settable_read}
+use Rattle.device.proofs.bus.get.Goals as goal
+
+pub returns-then-not-readable : goal.returns-then-not-readable
+unfolding get_of
+returns-then-not-readable c = rw (c.silent.ensures, ← c.readable.ensures, c.if-not-readable.true)
+
+pub bounds-d-i : goal.bounds-d-i
+bounds-d-i c = read_below _ _ (sym c.read_position-p.ensures ∙ c.in-At.is)
+
+pub returns-in-At : goal.returns-in-At
+unfolding get_of value_of setting_of
+returns-in-At c =
+    let there = sym c.read_position-p.ensures ∙ c.in-At.is in
+    let settable = sym (settable_position _) ∙ ap somewhere there in
+    let may = sym c.readable.ensures ∙ c.if-not-readable.false in
+    rw (c.answered.ensures, c.pointed-n.ensures, may, settable, there, settable_read _ _ settable)
+
+pub returns-in-Nowhere : goal.returns-in-Nowhere
+unfolding get_of value_of read_only_value_of low_read_of
+returns-in-Nowhere c =
+    let none = sym c.read_position-p.ensures ∙ c.in-Nowhere.is in
+    let may = sym c.readable.ensures ∙ c.if-not-readable.false in
+    rw (c.read_only.ensures, c.pointed-n.ensures, may, sym (settable_position _) ∙ ap somewhere none)
