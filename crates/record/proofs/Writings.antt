@@ -27,6 +27,10 @@ module _ (n room : ℕ) (bytes entry : List ℕ) where
   pub written : {exit : List ℕ} → n ≤ room → exit ≡ bytes ++ drop (length bytes) entry → Wrote (fitting n room bytes) 0 entry exit
   written h e = rw (le-leb n room h) (record { told = refl; buffer = e })
 
+-- bytes copied to the front of a room, whose length is known by a number
+pub at_front : (bytes entry : List ℕ) (n : ℕ) {part : List ℕ} → part ≡ bytes → length bytes ≡ n → part ++ drop n entry ≡ bytes ++ drop (length bytes) entry
+at_front bytes entry n p e = rw (p, e)
+
 -- two results that meet one promise are equal, and so are their buffers
 pub one_writing : {w : Writing} {code code' : ℕ} {entry exit exit' : List ℕ}
     → Wrote w code entry exit → Wrote w code' entry exit' → (code ≡ code') × (exit ≡ exit')

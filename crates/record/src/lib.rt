@@ -1,3 +1,4 @@
+#![tactic(auto)]
 // Records: four bytes to an event or a refusal, and back; the header's six or seven bytes.
 ghost use Rattle.std.specs.Prelude.{◌≡◌, [], ◌∷◌};
 ghost use Rattle.record.specs.Record.{decode_of, code_of, admit_of, last_kind_of, encode_of};
@@ -98,7 +99,7 @@ pub fn write_event(e: Event, room: &mut [u8]) -> u8
         return 7;
     }
     let q = encode(e);
-    bytes::copy(&q, room);
+    room[..4].copy_from_slice(&q);
     0
 }
 
@@ -138,7 +139,7 @@ pub fn write_header(variant: u8, count: u32, room: &mut [u8]) -> u8
         return 7;
     }
     let q = header(variant, count);
-    bytes::copy(&q, room);
+    room[..6].copy_from_slice(&q);
     0
 }
 
@@ -162,6 +163,6 @@ pub fn write_header_2(first: u8, second: u8, count: u32, room: &mut [u8]) -> u8
         return 7;
     }
     let q = header_2(first, second, count);
-    bytes::copy(&q, room);
+    room[..7].copy_from_slice(&q);
     0
 }
