@@ -1,3 +1,4 @@
+#![tactic(auto)]
 // Request c: one or two devices on one bus, by value.
 ghost use Rattle.std.specs.Prelude.{◌≡◌};
 ghost use Rattle.pair.specs.Bus.{picked_of, placed_of};
