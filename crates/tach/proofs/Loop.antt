@@ -1,6 +1,7 @@
 -- The loop over the stamps: what is gathered so far and what the stamps behind it give are together what the whole list gives.
 -- Assumes nothing.
-use Rattle.std.proofs.Common.{◌≡◌, ℕ, ◌+◌, ◌<◌, ◌≤◌, min, max, Bool, true, false, cond, eqb, ltb, List, [], ◌∷◌, map, length, get_or, drop, sym, refl, ◌∙◌, add-one, arith, drop_of_length-le, drop-cons, le-ltb, eq-eqb, ne_eqb}
+use Rattle.std.proofs.Common.{◌≡◌, ℕ, ◌+◌, ◌<◌, ◌≤◌, min, max, Bool, true, false, cond, eqb, ltb}
+use Rattle.std.proofs.Common.{List, [], ◌∷◌, map, length, get_or, drop, sym, refl, ◌∙◌, add-one, arith, drop_of_length-le, drop-cons, le-ltb, eq-eqb, ne_eqb}
 use Rattle.tach.specs.Stamps.{behind, period_of, ticks_a_minute, speed_of, speeds_of}
 use Rattle.tach.specs.Tach.{slowest_of, fastest_of, under_of, some_of, equal_of, refuses_of, tach_of}
 
