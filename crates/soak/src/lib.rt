@@ -1,3 +1,5 @@
+#![tactic(auto)]
+
 // T_CRIT_A at the end of a soak (request f): a stretch of conversions under one setup, read from the end backwards until both channels are decided.
 ghost use Rattle.std.specs.Prelude.{◌≡◌, ◌&&◌, [], ◌%◌, length};
 ghost use Rattle.device.specs.Bus.{standby_of};
