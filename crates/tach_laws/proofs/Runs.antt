@@ -57,7 +57,7 @@ at l i = get_or l i 0
 
 -- picking one of two numbers, so that the one picked stands so to both
 module _ (stands : ℕ → ℕ → Type 0) (pick : ℕ → ℕ → ℕ)
-    (one_of_lem : (a b : ℕ) → (pick a b ≡ a) ⊎ (pick a b ≡ b))
+    (one_of : (a b : ℕ) → (pick a b ≡ a) ⊎ (pick a b ≡ b))
     (to-first : (a b : ℕ) → stands (pick a b) a)
     (to-second : (a b : ℕ) → stands (pick a b) b)
     (through : (a b c : ℕ) → stands a b → stands b c → stands a c)
@@ -78,7 +78,7 @@ module _ (stands : ℕ → ℕ → Type 0) (pick : ℕ → ℕ → ℕ)
         ⊎_elim
         (λ e. record { place = 0; within = omega arith; there = sym e; each = before_each v s l o })
         (λ e. record { place = suc o.place; within = omega (arith, o.within); there = o.there ∙ sym e; each = before_each v s l o })
-        (one_of_lem v s)
+        (one_of v s)
 
 min_one : (a b : ℕ) → (min a b ≡ a) ⊎ (min a b ≡ b)
 min_one a b = by_test (leb a b) (λ t. inl (omega (arith, leb-true a b t))) (λ t. inr (omega (arith, leb-false a b t)))
