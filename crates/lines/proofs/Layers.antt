@@ -3,7 +3,6 @@
 use Rattle.std.proofs.Common.{◌≡◌, ℕ, ◌+◌, ◌-◌, ◌<◌, ◌≤◌, Bool, cond, leb, List, [], ◌++◌, length, take, drop, sym, refl, ap, ◌∙◌, subst, append_assoc, arith, length-append, length-drop, take_all, drop-drop, take_at, drop_at, le-leb, leb-true}
 use borrow.Rule.Slice.PartMut.{put_mid}
 use borrow.Author.Tests.{lt-leb}
-use Rattle.laws.proofs.Buffers.{copied, laid}
 use Rattle.laws.proofs.Choices.{cond_ind}
 use Rattle.lines.proofs.Decimals.{zeros_within}
 use Rattle.lines.specs.Lines.{zeros_of, ten_digits, decimal_of, fitting_of, Laid, Lined}
@@ -11,15 +10,13 @@ use Rattle.lines.specs.Lines.{zeros_of, ten_digits, decimal_of, fitting_of, Laid
 -- ---- layers
 
 -- behind a layer of n bytes, the next one
-pub next_layer : (entry layer l last src : List ℕ) (n : ℕ) → length layer ≡ n → l ≡ layer ++ drop (length layer) entry
-    → last ≡ take (length src) src ++ drop (length src) (take (length l - n) (drop n l))
-    → put_mid n (length l - n) l last ≡ (layer ++ src) ++ drop (length (layer ++ src)) entry
-next_layer entry layer l last src n k e f =
-    let t : take n l ≡ layer = ap (take n) e ∙ take_at layer (drop (length layer) entry) n k in
-    let d : drop n l ≡ drop (length layer) entry = ap (drop n) e ∙ drop_at layer (drop (length layer) entry) n k in
-    laid l last src n (copied src (take (length l - n) (drop n l)) f)
-    ∙ rw (t, d) (sym (append_assoc layer src (drop (length src) (drop (length layer) entry)))
-    ∙ ap (λ (m : List ℕ). (layer ++ src) ++ m) (drop-drop (length src) (length layer) entry ∙ ap (λ (m : ℕ). drop m entry) (sym (length-append layer src))))
+pub next_layer : (entry layer l last src : List ℕ) (n k : ℕ) → length layer ≡ n → k ≡ length src → l ≡ layer ++ drop (length layer) entry → last ≡ src
+    → put_mid n k l last ≡ (layer ++ src) ++ drop (length (layer ++ src)) entry
+next_layer entry layer l last src n k m h e f =
+    let t : take n l ≡ layer = ap (take n) e ∙ take_at layer (drop (length layer) entry) n m in
+    let d : drop n l ≡ drop (length layer) entry = ap (drop n) e ∙ drop_at layer (drop (length layer) entry) n m in
+    rw (f, h, t, d) (sym (append_assoc layer src (drop (length src) (drop (length layer) entry)))
+    ∙ ap (λ (x : List ℕ). (layer ++ src) ++ x) (drop-drop (length src) (length layer) entry ∙ ap (λ (x : ℕ). drop x entry) (sym (length-append layer src))))
 
 -- ---- the ways out
 
@@ -61,28 +58,30 @@ module _ (word tail entry : List ℕ) (n : ℕ) {digits : List ℕ} {z : ℕ} (t
   pub no_tail : length entry - (length word + (10 - z)) < length tail → Lined line 0 entry entry
   no_tail h = let k = line_length in too_long line entry (omega arith)
 
-  pub all_three : {l last last' : List ℕ} → length word ≤ length entry → 10 - z ≤ length entry - length word
+  pub all_three : {first last last' : List ℕ} → length word ≤ length entry → 10 - z ≤ length entry - length word
       → length tail ≤ length entry - (length word + (10 - z))
-      → l ≡ take (length word) word ++ drop (length word) entry
-      → (let middle : List ℕ = take (10 - z) (drop z digits) in
-      let m : List ℕ = put_mid (length word) (length l - length word) l last in
-      let b : ℕ = length word + (10 - z) in
-      last ≡ take (length middle) middle ++ drop (length middle) (take (length l - length word) (drop (length word) l))
-      → last' ≡ take (length tail) tail ++ drop (length tail) (take (length m - b) (drop b m))
-      → Lined line (b + length tail) entry (put_mid b (length m - b) m last'))
-  all_three {l} {last} {last'} h i j e f g =
+      → first ≡ word
+      → last ≡ take (10 - z) (drop z digits)
+      → last' ≡ tail
+      → (let b : ℕ = length word + (10 - z) in
+      let m : List ℕ = put_mid (length word) (b - length word) (first ++ drop (length word) entry) last in
+      Lined line (b + length tail) entry (put_mid b (b + length tail - b) m last'))
+  all_three {first} {last} {last'} h i j e f g =
       let middle : List ℕ = take (10 - z) (drop z digits) in
-      let m : List ℕ = put_mid (length word) (length l - length word) l last in
       let b : ℕ = length word + (10 - z) in
+      let l : List ℕ = first ++ drop (length word) entry in
+      let m : List ℕ = put_mid (length word) (b - length word) l last in
       let number : middle ≡ decimal_of n
       = rw (zeros, ten) (take_all (10 - zeros_of (ten_digits n)) (decimal_of n) (simp length-drop (omega arith))) in
-      let long : length (word ++ middle) ≡ b = length-append word middle ∙ ap (λ (k : ℕ). length word + k) (ap length number ∙ number_length) in
+      let wide : length middle ≡ 10 - z = ap length number ∙ number_length in
+      let long : length (word ++ middle) ≡ b = length-append word middle ∙ ap (λ (k : ℕ). length word + k) wide in
       let second : m ≡ (word ++ middle) ++ drop (length (word ++ middle)) entry
-      = next_layer entry word l last middle (length word) refl (copied word entry e) f in
-      let third = next_layer entry (word ++ middle) m last' tail b long second g in
+      = next_layer entry word l last middle (length word) (b - length word) refl (omega arith)
+      (ap (λ (x : List ℕ). x ++ drop (length word) entry) e) f in
+      let third = next_layer entry (word ++ middle) m last' tail b (b + length tail - b) long (omega arith) second g in
       let same : (word ++ middle) ++ tail ≡ line = append_assoc word middle tail ∙ ap (λ (x : List ℕ). word ++ (x ++ tail)) number in
       let k = line_length in
-      subst (λ (count : ℕ). Lined line count entry (put_mid b (length m - b) m last')) k
+      subst (λ (count : ℕ). Lined line count entry (put_mid b (b + length tail - b) m last')) k
       (written line entry (omega arith) (third ∙ ap (λ (x : List ℕ). x ++ drop (length x) entry) same))
 
 -- two results that meet the promise are equal, and so are their buffers
