@@ -1,3 +1,5 @@
+#![tactic(auto)]
+
 // The bench's calls on one device where it stands, for C.
 ghost use Rattle.std.specs.Prelude.{◌≡◌, cond, ◌&&◌};
 ghost use Rattle.device.specs.Ranges.{variant_of, ranged_of};

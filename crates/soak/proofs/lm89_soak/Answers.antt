@@ -19,7 +19,14 @@ pub returns-then-records-ne0 : goal.returns-then-records-ne0
 unfolding soak_of
 returns-then-records-ne0 c =
     let in_range = c.if-not-ranged.false in
-    rw (c.refused-then-records-ne0.ensures, ← c.in_range-ranged.ensures, in_range, ← c.in_standby-asleep.ensures, c.if-asleep.false, ne_eqb _ _ c.if-records-ne0.true)
+    rw (
+      c.refused-then-records-ne0.ensures,
+      ← c.in_range-ranged.ensures,
+      in_range,
+      ← c.in_standby-asleep.ensures,
+      c.if-asleep.false,
+      ne_eqb _ _ c.if-records-ne0.true,
+    )
 
 pub back-requires : goal.back-requires
 back-requires c =
