@@ -1,3 +1,5 @@
+#![tactic(auto)]
+
 // Writing a capture, for C: its header, and events as their records' four bytes.
 ghost use Rattle.record.specs.Writer.{WroteHeader, WroteHeader2};
 ghost use Rattle.bench_write.specs.BenchWrite.{WroteBytes};
