@@ -1,4 +1,4 @@
--- What a read of a register leaves: `read-ind`, case by case; `settable-read`, of a setting.
+-- What a read of a register leaves: `read_ind`, case by case; `settable_read`, of a setting.
 -- Assumes nothing.
 use mathlib.Core.Path.{◌≡◌, refl, sym, ap, ◌∙◌}
 use mathlib.Core.Bool.{Bool, true, false, not, ◌&&◌}

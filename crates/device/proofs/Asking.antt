@@ -1,4 +1,4 @@
--- `asked-done`: doing what an event asks is the event's effect.
+-- `asked_done`: doing what an event asks is the event's effect.
 -- Assumes nothing.
 use Prim.Native.Nat.{ℕ}
 use mathlib.Core.Path.{◌≡◌, refl, ap, ◌∙◌}

@@ -1,4 +1,4 @@
--- No event leaves the ranges: `kept` says it of any device that is in its ranges, and `powered-in-range` of a device as after
+-- No event leaves the ranges: `kept` says it of any device that is in its ranges, and `powered_in_range` of a device as after
 -- power-on, of any variant.
 -- Assumes nothing.
 use mathlib.Core.Path.{◌≡◌, refl, sym, ap, subst, ◌∙◌}

@@ -1,6 +1,6 @@
--- `powered-zero`: power-on of no variant leaves all zeros. `step-effect`: in range, of its own kinds
+-- `powered_zero`: power-on of no variant leaves all zeros. `step_effect`: in range, of its own kinds
 -- and with operands in the table a step is the effect with code 0.
--- `ranged-after` and `variant-after`: a step, refused or not, leaves neither the ranges nor the variants.
+-- `ranged_after` and `variant_after`: a step, refused or not, leaves neither the ranges nor the variants.
 -- Assumes nothing.
 use mathlib.Core.Path.{◌≡◌, refl, ap, ◌∙◌}
 use mathlib.Core.Bool.{Bool, true, false, ◌&&◌, cond}

@@ -1,5 +1,5 @@
 -- The program's detour: it works out first what an event asks of the device at hand, and then does that, so that each large function is
--- called from one place. Nothing of document 01 stands here; `proofs/Asking.antt: asked-done` says that the detour is `effect_of`.
+-- called from one place. Nothing of document 01 stands here; `proofs/Asking.antt: asked_done` says that the detour is `effect_of`.
 -- Assumes nothing.
 use Rattle.std.specs.Prelude.{ℕ, Bool, true, false, cond, eqb}
 use Rattle.temperature.specs.declared.Reading.{Reading}

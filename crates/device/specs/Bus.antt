@@ -7,7 +7,8 @@ use Rattle.std.specs.Int.Bits.{bit_and, bit_or}
 use Rattle.temperature.specs.declared.Reading.{Reading}
 use Rattle.temperature.specs.Temperature.{eighths_of, high_byte_of, low_byte_of}
 use Rattle.registers.specs.Bits.{has, alerting, alert_mask, standby}
-use Rattle.registers.specs.Page.{readable_of, writable_of, known_of, one_shot, settable_of, setting_of, changed_of, read_at_of, kept_of, power_on_of, read_only_of, address_of}
+use Rattle.registers.specs.Page.{readable_of, writable_of, known_of, one_shot, settable_of, setting_of, changed_of, read_at_of, kept_of}
+use Rattle.registers.specs.Page.{power_on_of, read_only_of, address_of}
 use Rattle.conversion.specs.declared.Sensed.{Sensed}
 use Rattle.conversion.specs.Conversion.{sensed_of}
 use Rattle.device.specs.declared.Device.{Device}

@@ -1,5 +1,5 @@
--- `after-conversion`: the live byte bit by bit, the fault count and the latches, in temperatures. `same_live` and `same-latches`: what they
--- depend on. `channels-alike`: both channels alike up to the fault queue and OPEN.
+-- `after_conversion`: the live byte bit by bit, the fault count and the latches, in temperatures. `same_live` and `same_latches`: what they
+-- depend on. `channels_alike`: both channels alike up to the fault queue and OPEN.
 -- Assumes nothing.
 use mathlib.Core.Path.{◌≡◌, refl, ap, sym, ◌∙◌}
 use mathlib.Core.Bool.{Bool, false, not, ◌||◌, ◌&&◌, cond, and-true, and-false, or-false}

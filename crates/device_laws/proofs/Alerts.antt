@@ -1,6 +1,6 @@
--- `alert-of-status`, `alert-of-live` and `masked`: what pulls ALERT, bit by bit. `t-crit-a`: what pulls T_CRIT_A. `responds` and
--- `unanswered-same`: an alert response. `received`: a receive at its own address is a read of the pointer's register.
--- `status-read`: a read of 02. `first_byte`: the first answer byte.
+-- `alert_of_status`, `alert_of_live` and `masked`: what pulls ALERT, bit by bit. `t_crit_a`: what pulls T_CRIT_A. `responds` and
+-- `unanswered_same`: an alert response. `received`: a receive at its own address is a read of the pointer's register.
+-- `status_read`: a read of 02. `first_byte`: the first answer byte.
 -- Assumes nothing.
 use mathlib.Core.Path.{◌≡◌, refl, ap, sym, ◌∙◌}
 use mathlib.Core.Bool.{Bool, true, false, not, ◌||◌, ◌&&◌, and-true, and-false, or-false}

@@ -1,5 +1,5 @@
--- P12: `alike-event`, two devices alike answer every event alike but for a read of 04 or BF, and are alike after it; `alike-run`, so do
--- they over a row of events; `alike-second`, they stay alike over a row of events done at a second device (request c).
+-- P12: `alike_event`, two devices alike answer every event alike but for a read of 04 or BF, and are alike after it; `alike_run`, so do
+-- they over a row of events; `alike_second`, they stay alike over a row of events done at a second device (request c).
 -- Assumes nothing.
 use mathlib.Core.Path.{◌≡◌, refl, sym, ap, subst, ◌∙◌}
 use mathlib.Core.Bool.{Bool, true, false, not, cond, ◌||◌, ◌&&◌}
@@ -178,7 +178,8 @@ module _ (d : Device) (t : List ℕ) (h : blanked d.settings ≡ blanked t) wher
   put_like : (w v : ℕ) → Like (put_of d w v) (put_of other w v) false
   unfolding put_of
   put_like w v =
-      choose false (writable_of w) (writable_of w) refl (answered_like false (written_of d w v) (written_of other w v) 0 (written (eqb w 0x0F))) (silent_like false)
+      choose false (writable_of w) (writable_of w) refl
+      (answered_like false (written_of d w v) (written_of other w v) 0 (written (eqb w 0x0F))) (silent_like false)
     where
       written : (s : Bool) → Alike (cond s (fired_of d) (stored_of d w v)) (cond s (fired_of other) (stored_of other w v))
       written true = fired_alike

@@ -1,6 +1,6 @@
--- Request b against the definitions before it, of every event of that time, kinds 01 to 07: `device-as-before`, the device after it is the one
--- before; `effect-as-before`, so are acknowledged, taken and the byte read; `first-as-before`, D4 apart the first answer byte too; `step-as-before`,
--- `run-as-before`: of every step, and over every row of such events, refused ones too, the codes, the answer bytes with D4 cleared and the end device
+-- Request b against the definitions before it, of every event of that time, kinds 01 to 07: `device_as_before`, the device after it is the one
+-- before; `effect_as_before`, so are acknowledged, taken and the byte read; `first_as_before`, D4 apart the first answer byte too; `step_as_before`,
+-- `run_as_before`: of every step, and over every row of such events, refused ones too, the codes, the answer bytes with D4 cleared and the end device
 -- are those before.
 -- Assumes nothing.
 use mathlib.Core.Path.{◌≡◌, refl, sym, ap, ◌∙◌}

@@ -1,4 +1,4 @@
--- `has-or`: a bit of a mask is set in two bytes joined exactly if it is set in one of them. `bit-of`: and in a byte of one bit or none.
+-- `has_or`: a bit of a mask is set in two bytes joined exactly if it is set in one of them. `bit_of`: and in a byte of one bit or none.
 -- Assumes nothing.
 use mathlib.Core.Path.{◌≡◌, refl, ap, sym, ◌∙◌}
 use mathlib.Core.Bool.{Bool, true, false, not, ◌||◌, ◌&&◌}

@@ -1,4 +1,4 @@
--- `both-sides`: document 01's "Both sides of each line", all ten lines.
+-- `both_sides`: document 01's "Both sides of each line", all ten lines.
 -- Assumes nothing.
 use mathlib.Core.Path.{◌≡◌, refl}
 use mathlib.Core.Bool.{Bool, true, false}

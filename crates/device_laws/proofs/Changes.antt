@@ -1,5 +1,5 @@
--- A register's byte changed, by register numbers: `setting-changed`, the byte of every register after one is changed; `changed-other` and
--- `changed-same`, two changes; `on_list`, two functions that agree on a printed list agree on each of its numbers; `and_assoc`, a mask of a
+-- A register's byte changed, by register numbers: `setting_changed`, the byte of every register after one is changed; `changed_other` and
+-- `changed_same`, two changes; `on_list`, two functions that agree on a printed list agree on each of its numbers; `and_assoc`, a mask of a
 -- mask.
 -- Assumes nothing.
 use mathlib.Core.Path.{◌≡◌, refl, sym, ap, ◌∙◌}
@@ -95,7 +95,8 @@ module _ (g : ℕ → ℕ) where
   unfolding setting_of changed_of
   setting_mapped s q e = split (read_position_of q)
     where
-      split : (p : Position) → let old = on_position p (λ i. get_or s i 0) 0 in on_position p (λ i. get_or (on_position p (λ j. set s j (g old)) s) i 0) 0 ≡ g old
+      split : (p : Position) → let old = on_position p (λ i. get_or s i 0) 0 in
+          on_position p (λ i. get_or (on_position p (λ j. set s j (g old)) s) i 0) 0 ≡ g old
       split (At i) = get_mapped s i e
       split Nowhere = sym e
 
@@ -128,7 +129,8 @@ changed_other s q r a b e = split (read_position_of q) (read_position_of r) refl
 
 -- ---- a mask of a mask
 
-assoc_step : (n : ℕ) → ((b c : ℕ) → bit_and (bit_and (n / 2) b) c ≡ bit_and (n / 2) (bit_and b c)) → (b c : ℕ) → bit_and (bit_and n b) c ≡ bit_and n (bit_and b c)
+assoc_step : (n : ℕ) → ((b c : ℕ) → bit_and (bit_and (n / 2) b) c ≡ bit_and (n / 2) (bit_and b c))
+    → (b c : ℕ) → bit_and (bit_and n b) c ≡ bit_and n (bit_and b c)
 assoc_step n ih b c =
     let e = and_step n b in
     let f = and_step b c in

@@ -1,4 +1,4 @@
--- A step's codes, both ways: `step-exactly`, each code is given exactly if its line of the table says so. Request c: `second-refused`, a conversion of a
+-- A step's codes, both ways: `step_exactly`, each code is given exactly if its line of the table says so. Request c: `second_refused`, a conversion of a
 -- second device gets 3 from a step, whatever its operands, with answer bytes 0 and the device as it was.
 -- Assumes nothing.
 use Prim.Native.Nat.{ℕ}

@@ -1,5 +1,5 @@
--- `converted`: what a taken conversion does, one of a second device too. `live-depends`: what the live byte depends on.
--- `count-in-a-row`: the fault count over faults in a row (P4). Request c: `second_alike` and `second-open-alike`, kinds 08 and 09 are 05 and 06.
+-- `converted`: what a taken conversion does, one of a second device too. `live_depends`: what the live byte depends on.
+-- `count_in_a_row`: the fault count over faults in a row (P4). Request c: `second_alike` and `second_open_alike`, kinds 08 and 09 are 05 and 06.
 -- Assumes nothing.
 use mathlib.Core.Path.{◌≡◌, refl, ◌∙◌}
 use mathlib.Core.Bool.{Bool, true}

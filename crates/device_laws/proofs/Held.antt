@@ -1,6 +1,6 @@
--- Request b. `shown-exactly`: D4 of the first answer byte, for every device and event. `step-shows` and `step-rest`: of every step, refused ones too,
--- and D5 to D7 are 0. `highest-not` and `lowest-not`: a sum of exactly 1023 or -1024 is not held. `untaken-not`: nor is a conversion that is not
--- taken. `others-never`, `open-never`: no other event shows it, an open diode neither. `told`: what it tells of the reading. Kinds 05 and 08 are alike
+-- Request b. `shown_exactly`: D4 of the first answer byte, for every device and event. `step_shows` and `step_rest`: of every step, refused ones too,
+-- and D5 to D7 are 0. `highest_not` and `lowest_not`: a sum of exactly 1023 or -1024 is not held. `untaken_not`: nor is a conversion that is not
+-- taken. `others_never`, `open_never`: no other event shows it, an open diode neither. `told`: what it tells of the reading. Kinds 05 and 08 are alike
 -- here, and 06 and 09.
 -- Assumes nothing.
 use mathlib.Core.Path.{◌≡◌, refl, sym, ap, ◌∙◌}

@@ -1,7 +1,7 @@
 -- Request a. `untorn`: after a read of 01, whatever comes between but another read of 01 or 10 or power-on, a read of 10 gives the low byte of
--- the reading whose high byte was read; `untorn-second`: so it does at a second device, whose conversions are of kinds 08 and 09 (request c).
--- `unmoved`, and `unmoved-between` of a row: nothing else keeps a low byte or lets one go. `latest`: with nothing kept, 10 is the low byte of the latest
--- reading. `by-pointer`: a receive, the alert response apart, is a read of the register at the pointer. `acknowledged-reads`: what these call a read is
+-- the reading whose high byte was read; `untorn_second`: so it does at a second device, whose conversions are of kinds 08 and 09 (request c).
+-- `unmoved`, and `unmoved_between` of a row: nothing else keeps a low byte or lets one go. `latest`: with nothing kept, 10 is the low byte of the latest
+-- reading. `by_pointer`: a receive, the alert response apart, is a read of the register at the pointer. `acknowledged_reads`: what these call a read is
 -- acknowledged.
 -- Assumes nothing.
 use mathlib.Core.Path.{◌≡◌, refl, sym, ap, ◌∙◌}

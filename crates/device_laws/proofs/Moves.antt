@@ -1,6 +1,6 @@
--- What moves each part of a device, for every device and event: `pointer-moves`, `pending-moves`, `status-moves`, `low-moves`, `local-moves`,
--- `remote-moves`, `faults-moves`; `sensed-rests` and `sensed-starts` for these three with the live byte and the latches; and what is
--- acknowledged, taken and, by request b, held: `acknowledged-exactly`, `taken-exactly` and `held-exactly`.
+-- What moves each part of a device, for every device and event: `pointer_moves`, `pending_moves`, `status_moves`, `low_moves`, `local_moves`,
+-- `remote_moves`, `faults_moves`; `sensed_rests` and `sensed_starts` for these three with the live byte and the latches; and what is
+-- acknowledged, taken and, by request b, held: `acknowledged_exactly`, `taken_exactly` and `held_exactly`.
 -- Assumes nothing.
 use mathlib.Core.Path.{◌≡◌, refl, sym, ap, ◌∙◌}
 use mathlib.Core.Bool.{Bool, true, false, not, cond, ◌||◌, ◌&&◌, and-true, and-false, or-false}
@@ -15,7 +15,8 @@ use Rattle.laws.proofs.Choices.{cond_ind, by_test, clash}
 use Rattle.temperature.specs.declared.Reading.{Reading}
 use Rattle.temperature.specs.Temperature.{degrees_of, eighths_of, sum_of, open_reading}
 use Rattle.temperature.proofs.Held.{held_tells, held_eighths}
-use Rattle.registers.specs.Page.{r_set, w_set, among, readable_of, writable_of, known_of, address_of, read_at_of, kept_of, setting_of, changed_of, read_position_of, read_only_of}
+use Rattle.registers.specs.Page.{r_set, w_set, among, readable_of, writable_of, known_of, address_of, read_at_of, kept_of, setting_of, changed_of}
+use Rattle.registers.specs.Page.{read_position_of, read_only_of}
 use Rattle.registers.proofs.Entries.{zero_at}
 use Rattle.conversion.specs.declared.Sensed.{Sensed}
 use Rattle.conversion.specs.Conversion.{reading_of, remote_limits_of, out_of, any_of, count_of, sensed_of, remote_out_of}
@@ -27,9 +28,9 @@ use Rattle.device.specs.Pins.{comparator_of, watched_of, alert_of}
 use Rattle.device.specs.Bus.{silent_of, answered_of, standby_of, masked_of, stored_of, stored_in, fired_of, written_of, put_of, pointed_of}
 use Rattle.device.specs.Bus.{after_read_of, value_of, get_of, point_of, responds_of, respond_of, takes_of, converted_of, taking_of, sense_of}
 use Rattle.device.specs.Bus.{powered_of, alert_response, at_of}
-use Rattle.device_laws.specs.Moves.{byte_at, own_of, any_set, in_standby, taken_of, named_of, pointer_after, pending_after, local_after, remote_after, count_after}
-use Rattle.device_laws.specs.Moves.{rests_at, sum_at, sample_of, faults_after, status_after, kept_low, low_after_read, low_after, answers_alert}
-use Rattle.device_laws.specs.Moves.{acknowledged_of, taken_by, held_by}
+use Rattle.device_laws.specs.Moves.{byte_at, own_of, any_set, in_standby, taken_of, named_of, pointer_after, pending_after, local_after}
+use Rattle.device_laws.specs.Moves.{remote_after, count_after, rests_at, sum_at, sample_of, faults_after, status_after, kept_low, low_after_read, low_after}
+use Rattle.device_laws.specs.Moves.{answers_alert, acknowledged_of, taken_by, held_by}
 use Rattle.device.specs.Ranges.{ranged_of}
 use Rattle.device.specs.Profile.{OnBus}
 use Rattle.device.specs.Step.{effect_of}

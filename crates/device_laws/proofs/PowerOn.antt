@@ -1,4 +1,4 @@
--- `forgets`: after power-on nothing but the variant depends on what stood before. `powered-on`: what it is, field by field.
+-- `forgets`: after power-on nothing but the variant depends on what stood before. `powered_on`: what it is, field by field.
 -- Assumes nothing.
 use mathlib.Core.Path.{◌≡◌, refl, ap}
 use mathlib.Core.Bool.{true}

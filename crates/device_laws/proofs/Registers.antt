@@ -1,4 +1,4 @@
--- What moves the fourteen register bytes, and the byte read, by register numbers: `setting-moves` and `byte-exactly`.
+-- What moves the fourteen register bytes, and the byte read, by register numbers: `setting_moves` and `byte_exactly`.
 -- Assumes nothing.
 use mathlib.Core.Path.{◌≡◌, refl, sym, ap, ◌∙◌}
 use mathlib.Core.Bool.{Bool, true, false, cond, ◌||◌, ◌&&◌, or-false}
@@ -13,8 +13,8 @@ use Rattle.laws.proofs.Choices.{cond_ind, by_test, clash, and_left, and_right}
 use Rattle.temperature.specs.declared.Reading.{Reading}
 use Rattle.registers.specs.declared.Position.{Position}
 use Rattle.registers.specs.declared.Position.TheVariants.{At, Nowhere}
-use Rattle.registers.specs.Page.{r_set, w_set, Settable, settable, among, on_position, readable_of, writable_of, known_of, address_of, read_at_of, kept_of, settable_of}
-use Rattle.registers.specs.Page.{read_position_of, setting_of, power_on_of, read_only_of}
+use Rattle.registers.specs.Page.{r_set, w_set, Settable, settable, among, on_position, readable_of, writable_of, known_of, address_of, read_at_of}
+use Rattle.registers.specs.Page.{kept_of, settable_of, read_position_of, setting_of, power_on_of, read_only_of}
 use Rattle.registers.proofs.Settings.{somewhere, settable_position}
 use Rattle.device.specs.declared.Device.{Device}
 use Rattle.device.specs.declared.Outcome.{Outcome}
@@ -22,7 +22,8 @@ use Rattle.device.specs.declared.Event.{Event}
 use Rattle.device.specs.declared.Event.TheVariants.{Write, Read, Send, Receive, Convert, Open, PowerOn, ConvertSecond, OpenSecond}
 use Rattle.device.specs.Pins.{comparator_of}
 use Rattle.device.specs.Bus.{silent_of, answered_of, masked_of, stored_of, fired_of, put_of, pointed_of, read_out_of, low_read_of}
-use Rattle.device.specs.Bus.{after_read_of, read_only_value_of, value_of, get_of, point_of, responds_of, respond_of, converted_of, takes_of, sense_of, powered_of, at_of}
+use Rattle.device.specs.Bus.{after_read_of, read_only_value_of, value_of, get_of, point_of, responds_of, respond_of, converted_of}
+use Rattle.device.specs.Bus.{takes_of, sense_of, powered_of, at_of}
 use Rattle.device_laws.specs.Moves.{byte_at, own_of, taken_of, named_of, fourteen, read_number, kept_bits, start_byte, finds_alert, masked_at, answers_alert}
 use Rattle.device_laws.specs.Moves.{setting_after, shown_at, register_byte, byte_read}
 use Rattle.device.specs.Ranges.{variant_of}

@@ -1,5 +1,5 @@
--- The reader keeps one device at hand. `first-record`: what the bus does at the record that it takes the device up for; `next-record`: at one that
--- does not leave it; `one-device`: at any record of a device alone; `hand-answer`: the answer, with the other's lines laid over.
+-- The reader keeps one device at hand. `first_record`: what the bus does at the record that it takes the device up for; `next_record`: at one that
+-- does not leave it; `one_device`: at any record of a device alone; `laid_of`: the answer, with the other's lines laid over.
 -- Assumes nothing.
 use Prim.Native.Nat.{ℕ}
 use mathlib.Core.Path.{◌≡◌, refl, sym, ap, ◌∙◌}

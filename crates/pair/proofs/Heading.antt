@@ -1,5 +1,5 @@
--- A bus while its header is read: each byte that is taken keeps it in its ranges. `opened`: the device count; `first_taken` and `second-taken`: the
--- variants; `later`: once they are taken, more header bytes change nothing; `zero-ranges`: it starts in them; `few-devices`: there are two at most.
+-- A bus while its header is read: each byte that is taken keeps it in its ranges. `opened`: the device count; `first_taken` and `second_taken`: the
+-- variants; `later`: once they are taken, more header bytes change nothing; `zero_ranges`: it starts in them; `few_devices`: there are two at most.
 -- Assumes nothing.
 use Prim.Native.Nat.{ℕ, ◌+◌, ◌≤◌, ◌<◌}
 use mathlib.Core.Path.{◌≡◌, refl, sym}

@@ -1,4 +1,4 @@
--- `line-joined`: the first answer byte of joined lines is the device's own byte with the other's lines laid over it.
+-- `line_joined`: the first answer byte of joined lines is the device's own byte with the other's lines laid over it.
 -- Assumes nothing.
 use mathlib.Core.Path.{◌≡◌, refl}
 use mathlib.Core.Bool.{Bool, true, false, ◌&&◌}

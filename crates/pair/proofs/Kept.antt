@@ -1,5 +1,5 @@
--- No event leaves the ranges of a bus: `bus-kept`, once its header is complete. `same_count`, `same-variants`, `same-addresses`: none changes the
--- device count, a variant or an address. `second-place`: with one device, none touches the second's place.
+-- No event leaves the ranges of a bus: `bus_kept`, once its header is complete. `same_count`, `same_variants`, `same_addresses`: none changes the
+-- device count, a variant or an address. `second_place`: with one device, none touches the second's place.
 -- Assumes nothing.
 use Prim.Native.Nat.{ℕ, ◌≤◌}
 use mathlib.Core.Path.{◌≡◌, refl, ap}

@@ -1,4 +1,4 @@
--- Trailing zeros name the lowest set bit, `lowest-bit`; of the mask of two devices the one of lower address, `two`.
+-- Trailing zeros name the lowest set bit, `lowest_bit`; of the mask of two devices the one of lower address, `two`.
 -- Assumes nothing.
 use mathlib.Core.Path.{◌≡◌, refl, ◌∙◌}
 use mathlib.Core.Bool.{Bool, true, false, cond, not, ◌&&◌, ◌||◌}
@@ -22,7 +22,8 @@ unfolding count_trailing_zeros
 clear zero n i h = absurd (omega arith)
 clear (suc k) n i h = go (n % 2) refl i h (clear k (n / 2))
   where
-    go : (r : ℕ) → n % 2 ≡ r → (i : ℕ) → i < under r (count_trailing_zeros k (n / 2)) → ((j : ℕ) → j < count_trailing_zeros k (n / 2) → bit (n / 2) j ≡ 0) → bit n i ≡ 0
+    go : (r : ℕ) → n % 2 ≡ r → (i : ℕ) → i < under r (count_trailing_zeros k (n / 2))
+        → ((j : ℕ) → j < count_trailing_zeros k (n / 2) → bit (n / 2) j ≡ 0) → bit n i ≡ 0
     go zero e zero h ih = at_zero n ∙ e
     go zero e (suc j) h ih = up n j ∙ ih j (le_of_suc-le-suc h)
     go (suc r) e i h ih = absurd (omega arith)

@@ -1,7 +1,7 @@
--- Each device alone follows the one-device definition. `own-record`: a record of one device is that device's own. `each`: what the bus does of an
--- event is what its two devices do of it alone, each of what it sees. `device-alone`: over any row of events, either device stands as after the
--- one-device run over the events that it sees. `rows-together` and `answers-together`: the bus's outcomes and answers are those of the two
--- one-device runs, joined; `outcomes-alone`: such a run's outcomes are, where it sees the event, those of the one-device definition.
+-- Each device alone follows the one-device definition. `own_record`: a record of one device is that device's own. `each`: what the bus does of an
+-- event is what its two devices do of it alone, each of what it sees. `device_alone`: over any row of events, either device stands as after the
+-- one-device run over the events that it sees. `rows_together` and `answers_together`: the bus's outcomes and answers are those of the two
+-- one-device runs, joined; `outcomes_alone`: such a run's outcomes are, where it sees the event, those of the one-device definition.
 -- Assumes nothing.
 use Prim.Native.Nat.{ℕ}
 use mathlib.Core.Path.{◌≡◌, refl, ap, ◌∙◌}

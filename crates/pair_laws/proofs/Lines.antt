@@ -1,5 +1,5 @@
--- The pins are the joined lines: `alert-line`, ALERT of the bus is pulled exactly if some device of it pulls it, and so T_CRIT_A, `tcrit-line`.
--- `alert-stays` and `tcrit-stays`: what a device pulls before an event that does not name it, the bus pulls after.
+-- The pins are the joined lines: `alert_line`, ALERT of the bus is pulled exactly if some device of it pulls it, and so T_CRIT_A, `tcrit_line`.
+-- `alert_stays` and `tcrit_stays`: what a device pulls before an event that does not name it, the bus pulls after.
 -- Assumes nothing.
 use mathlib.Core.Path.{◌≡◌, refl, sym, ◌∙◌}
 use mathlib.Core.Logic.{◌↔◌}

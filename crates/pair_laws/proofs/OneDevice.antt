@@ -1,6 +1,7 @@
--- With a device count of 1 all is as before: `one-effect`, `one_answer` and `one-lines`, what the bus does, its answer and its lines are the device's
--- own; `one-after` and `one-answers`, over any row of events, all of which it sees, `sees-all`. An absent device acknowledges nothing and pulls nothing: `absent-silent`, nothing
--- depends on what stands in its place; `second-unheard` and `other-address`, an event of a second device or at another address does nothing.
+-- With a device count of 1 all is as before: `one_effect`, `one_answer` and `one_lines`, what the bus does, its answer and its lines are the device's
+-- own; `one_after` and `one_answers`, over any row of events, all of which it sees, `sees_all`. An absent device acknowledges nothing and pulls
+-- nothing: `absent_silent`, nothing depends on what stands in its place; `second_unheard` and `other_address`, an event of a second device or at
+-- another address does nothing.
 -- Assumes nothing.
 use Prim.Native.Nat.{ℕ}
 use mathlib.Core.Path.{◌≡◌, refl, sym, ap, ◌∙◌}

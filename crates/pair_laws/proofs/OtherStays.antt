@@ -1,6 +1,6 @@
--- A record addressed to one device, or a conversion of it, leaves the other's state as it was: `other-stays`, of either device. `unnamed-stays`: a
--- device that an event does not name is as it was, of an alert response too. `one-named`: no event but power-on names both. `nobodys`: an event of
--- neither device, but for an alert response and power-on, does nothing. `restarts-both`: power-on.
+-- A record addressed to one device, or a conversion of it, leaves the other's state as it was: `other_stays`, of either device. `unnamed_stays`: a
+-- device that an event does not name is as it was, of an alert response too. `one_named`: no event but power-on names both. `nobodys`: an event of
+-- neither device, but for an alert response and power-on, does nothing. `restarts_both`: power-on.
 -- Assumes nothing.
 use Prim.Native.Nat.{ℕ}
 use mathlib.Core.Path.{◌≡◌, refl, sym, ◌∙◌}
@@ -16,7 +16,8 @@ use Rattle.device.specs.Ranges.{second_of}
 use Rattle.pair.specs.declared.Bus.{Bus}
 use Rattle.pair.specs.declared.Named.{Named}
 use Rattle.pair.specs.declared.Named.TheVariants.{Neither, First, Second, Both}
-use Rattle.pair.specs.Bus.{two_of, picked_of, first_address, second_address, at_address_of, respondent_of, among_of, names_of, quiet_of, by_named, bus_effect_of}
+use Rattle.pair.specs.Bus.{two_of, picked_of, first_address, second_address, at_address_of, respondent_of, among_of, names_of, quiet_of}
+use Rattle.pair.specs.Bus.{by_named, bus_effect_of}
 use Rattle.pair_laws.specs.Devices.{Two, address_at, alone_named, is_named, is_alert_response, is_power_on, is_of}
 
 -- ---- a device that is not named

@@ -1,5 +1,5 @@
--- Each device alone follows demand 2. `each-stepped`: over any row of events each device of a bus is stepped by value, with code 0, through the events
--- that it sees, and ends as it stands on the bus. `alone-replies`: a device alone replies what the bus answers. `ready`: this is so from any bus in its ranges.
+-- Each device alone follows demand 2. `each_stepped`: over any row of events each device of a bus is stepped by value, with code 0, through the events
+-- that it sees, and ends as it stands on the bus. `alone_replies`: a device alone replies what the bus answers. `ready`: this is so from any bus in its ranges.
 -- Assumes nothing.
 use Prim.Native.Nat.{ℕ, ◌≤◌}
 use mathlib.Core.Path.{◌≡◌, refl, ◌∙◌}

@@ -1,4 +1,4 @@
--- Of two devices on a bus, the addresses are two: `in-ranges`, the ranges of a bus ask it once the header is complete; `still-two`, no event ends it.
+-- Of two devices on a bus, the addresses are two: `in_ranges`, the ranges of a bus ask it once the header is complete; `still_two`, no event ends it.
 -- Assumes nothing.
 use Prim.Native.Nat.{ℕ, ◌≤◌}
 use mathlib.Core.Path.{◌≡◌, refl}

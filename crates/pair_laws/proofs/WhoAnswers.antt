@@ -1,7 +1,7 @@
--- Who answers an alert response of two devices: `who-answers`, a device is named exactly if P9 lets it answer and, if the other may answer too, its
--- address is the lower; `nobody-answers`, none exactly if neither may; `never_both`. `lowest-set-bit`: the lowest set bit of the mask of alerting
--- devices, ordered by address, names who answers. `answered`: the one named does what P9 says; the other is as it was, and `keeps-pulling`.
--- `none-alerting`: with none alerting nothing is acknowledged.
+-- Who answers an alert response of two devices: `who_answers`, a device is named exactly if P9 lets it answer and, if the other may answer too, its
+-- address is the lower; `nobody_answers`, none exactly if neither may; `never_both`. `lowest_set_bit`: the lowest set bit of the mask of alerting
+-- devices, ordered by address, names who answers. `answered`: the one named does what P9 says; the other is as it was, and `keeps_pulling`.
+-- `none_alerting`: with none alerting nothing is acknowledged.
 -- Assumes nothing.
 use Prim.Native.Nat.{ℕ, zero, suc, ◌+◌, ◌*◌, ◌/◌, ◌%◌, ◌^◌, ◌≤◌, ◌<◌}
 use native.Mathlib.Nat.{le_of_lt, zero-div}
@@ -211,7 +211,8 @@ module _ (p : Bus) (second : Bool) where
   abbrev replied : Done
   replied = done_of p second (answered_of (masked_of (picked_of p second)) (address_at p second * 2 + 1))
 
-  replies : names_of p (Receive alert_response) ≡ alone_named second → responds_of (picked_of p second) ≡ true → bus_effect_of p (Receive alert_response) ≡ replied
+  replies : names_of p (Receive alert_response) ≡ alone_named second
+      → responds_of (picked_of p second) ≡ true → bus_effect_of p (Receive alert_response) ≡ replied
   unfolding bus_effect_of effect_of respond_of
   replies named may = rw named (split second may)
     where

@@ -1,4 +1,4 @@
--- `absent-exactly`: the tests of an absent device hold exactly if it is all zeros.
+-- `absent_exactly`: the tests of an absent device hold exactly if it is all zeros.
 -- Assumes nothing.
 use Prim.Native.Nat.{ℕ, zero, suc}
 use mathlib.Core.Path.{◌≡◌, refl, sym, ap, ◌∙◌}

@@ -1,4 +1,4 @@
--- The writers' codes, both ways: `event-exactly`, `header-exactly` and `header2-exactly`, each code is given exactly if its line of the table says so.
+-- The writers' codes, both ways: `event_exactly`, `header_exactly` and `header2_exactly`, each code is given exactly if its line of the table says so.
 -- Assumes nothing.
 use Prim.Native.Nat.{ℕ}
 use mathlib.Core.Path.{◌≡◌}

@@ -1,5 +1,5 @@
--- `kind-refused`: four bytes are refused for their kind exactly if it is not 01 to 07, under a device count of 2 not 01 to 09 (request c).
--- `past-last`, `of_two`: the same, for a kind past the last of the table and for 08 and 09. `kind-alike`: kinds up to 07 read alike under every count.
+-- `kind_refused`: four bytes are refused for their kind exactly if it is not 01 to 07, under a device count of 2 not 01 to 09 (request c).
+-- `past_last`, `of_two`: the same, for a kind past the last of the table and for 08 and 09. `kind_alike`: kinds up to 07 read alike under every count.
 -- Assumes nothing.
 use Prim.Native.Nat.{ℕ, zero, suc, ◌<◌}
 use mathlib.Core.Path.{◌≡◌, refl, sym, ◌∙◌}

@@ -1,5 +1,5 @@
--- Demand 2, writing and reading back; request c: reading back of 08 and 09 is under a device count of 2. `reads-back`: every event that the
--- table allows is written as four bytes that read back as that event. `only-those`: any four bytes that read as it are those four, it is
+-- Demand 2, writing and reading back; request c: reading back of 08 and 09 is under a device count of 2. `reads_back`: every event that the
+-- table allows is written as four bytes that read back as that event. `only_those`: any four bytes that read as it are those four, it is
 -- allowed, and for 08 and 09 the count is 2. So a refused event is read from nothing.
 -- Assumes nothing.
 use mathlib.Core.Path.{◌≡◌, refl}

@@ -1,4 +1,4 @@
--- The ways out of a writer, and that its promise has one answer: `one-writing`, and so `one-event`, `one-header`, `one-header-2`.
+-- The ways out of a writer, and that its promise has one answer: `one_writing`, and so `one_event`, `one_header`, `one_header_2`.
 -- Assumes nothing.
 use mathlib.Core.Path.{◌≡◌, refl, sym, ◌∙◌}
 use mathlib.Core.Bool.{true, false, cond, ◌&&◌}

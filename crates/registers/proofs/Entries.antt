@@ -71,8 +71,11 @@ unfolding read_only_of
 zero_at v r e = ap (column v) e ∙ column_zero v
 
 -- of the read-only registers only FE and FF start at another byte than 0
-pub read_only_rows : (r : ℕ) → r < 256 → read_only_in r page ≡ cond (eqb r 0xFE) (every_variant 0x01) (cond (eqb r 0xFF) (each 0x31 0x34 0x35) (every_variant 0))
-read_only_rows = agree (λ r. read_only_in r page) (λ r. cond (eqb r 0xFE) (every_variant 0x01) (cond (eqb r 0xFF) (each 0x31 0x34 0x35) (every_variant 0))) 256 refl
+pub read_only_rows : (r : ℕ) → r < 256
+    → read_only_in r page ≡ cond (eqb r 0xFE) (every_variant 0x01) (cond (eqb r 0xFF) (each 0x31 0x34 0x35) (every_variant 0))
+read_only_rows =
+    agree (λ r. read_only_in r page)
+    (λ r. cond (eqb r 0xFE) (every_variant 0x01) (cond (eqb r 0xFF) (each 0x31 0x34 0x35) (every_variant 0))) 256 refl
 
 pub read_only_else : (v r : ℕ) → r < 256 → eqb r 0xFE ≡ false → eqb r 0xFF ≡ false → read_only_of v r ≡ 0
 read_only_else v r h a b =

@@ -4,5 +4,6 @@ use Rattle.registers.specs.Page.{readable_of, writable_of, known_of, write_posit
 use Rattle.registers.specs.Page.{kept_of, power_on_of, read_only_of, address_of}
 
 unfoldable pub registers_opened : Unit {0}
-unfolding readable_of writable_of known_of write_position_of read_position_of setting_of changed_of settable_of read_at_of kept_of power_on_of read_only_of address_of
+unfolding readable_of writable_of known_of write_position_of read_position_of setting_of changed_of settable_of read_at_of kept_of power_on_of
+    read_only_of address_of
 registers_opened = tt

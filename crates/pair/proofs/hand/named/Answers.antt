@@ -26,4 +26,9 @@ returns-then-kind-ge-CONVERSION_2 c =
 pub returns-else-kind-ge-CONVERSION_2 : goal.returns-else-kind-ge-CONVERSION_2
 unfolding named_at
 returns-else-kind-ge-CONVERSION_2 c =
-    rw (eq-eqb _ _ c.if-bus-ne2.false, lt-leb _ _ c.if-kind-le-RECEIVE.false, ne_eqb _ _ c.if-kind-eq-POWER_ON.false, lt-leb _ _ c.if-kind-ge-CONVERSION_2.false)
+    rw (
+      eq-eqb _ _ c.if-bus-ne2.false,
+      lt-leb _ _ c.if-kind-le-RECEIVE.false,
+      ne_eqb _ _ c.if-kind-eq-POWER_ON.false,
+      lt-leb _ _ c.if-kind-ge-CONVERSION_2.false,
+    )
