@@ -1,3 +1,4 @@
+#![tactic(auto)]
 // The capture's reader: fed in parts of any size, with any room for answers.
 ghost use Rattle.std.specs.Prelude.{◌≡◌};
 ghost use Rattle.capture.specs.Reader.{fresh_of, end_of, finish_of, report_of, FedWith};

@@ -53,8 +53,8 @@ fn refused(s: Reader, code: u8, at: usize, written: usize) -> Fed
 
 // A record's fourth byte with no room for its answers: 3 or 4, else 7.
 pub(crate) fn no_room(s: Reader, c: u8, at: usize, written: usize) -> Fed
-    requires s_value { ranges_of s ≡ true }
-    requires s_value_2 { waits_of s ≡ true }
+    requires in_range { ranges_of s ≡ true }
+    requires waiting { waits_of s ≡ true }
     ensures { Full s c at written result }
 {
     let q = s.bytes;
@@ -78,8 +78,8 @@ fn lesser(a: usize, b: usize) -> usize
 // How many records can be taken from a fourth byte on: one that restarts both devices, else the least of those counted, whole in the bytes, and with
 // room.
 fn upto(restart: bool, s: Reader, bytes: usize, room: usize) -> usize
-    requires done_le_count { s.done ≤ s.count }
-    requires bytes_nonzero { 0 < bytes }
+    requires within { s.done ≤ s.count }
+    requires some { 0 < bytes }
     ensures { result ≡ upto_of restart (s.count - s.done) bytes room }
 {
     if restart {

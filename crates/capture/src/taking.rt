@@ -128,8 +128,8 @@ fn waits(s: Reader) -> bool
 
 // A byte that completes no record: of the header, carried, or past the last counted record.
 fn take_quiet(s: Reader, b: u8) -> Reader
-    requires s_value { ranges_of s ≡ true }
-    requires s_value_2 { waits_of s ≡ false }
+    requires in_range { ranges_of s ≡ true }
+    requires quiet { waits_of s ≡ false }
     ensures { turn_of s b ≡ quiet_of result }
 {
     if s.held != 0 {
@@ -146,8 +146,8 @@ fn take_quiet(s: Reader, b: u8) -> Reader
 
 // As many bytes as complete no record.
 pub(crate) fn lead(s: Reader, input: &[u8], from: usize) -> Ahead
-    requires s_value { ranges_of s ≡ true }
-    requires from_in_bounds { from ≤ length input.now }
+    requires in_range { ranges_of s ≡ true }
+    requires within { from ≤ length input.now }
     ensures { Led input.now s from result }
 {
     let mut n = s;

@@ -1,0 +1,4 @@
+use Rattle.capture.proofs.header.ahead.Goals as goal
+
+pub returns : goal.returns
+returns c = rw (c.length.ensures, c.taken.ensures)

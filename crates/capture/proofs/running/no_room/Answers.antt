@@ -1,0 +1,17 @@
+use mathlib.Core.Path.{sym, ap, ◌∙◌}
+use Rattle.record.specs.Record.{decode_of}
+use Rattle.capture.proofs.Records.{waiting, ends_refused, ends_full}
+use Rattle.capture.proofs.running.no_room.Goals as goal
+
+pub returns-in_default : goal.returns-in_default
+returns-in_default c = λ o input entry answers g l e n.
+    let told = c.in_default.is in
+    let w = waiting c.args.s c.requires.in_range c.requires.waiting in
+    rw (c.refused.ensures, c.code.ensures, told)
+    (ends_refused w g l _ (ap (decode_of _ _ _ _) e ∙ sym c.decode-r.ensures ∙ told))
+
+pub returns : goal.returns
+returns c = λ o input entry answers g l e n.
+    let w = waiting c.args.s c.requires.in_range c.requires.waiting in
+    rw c.report.ensures
+    (ends_full w g l _ (ap (decode_of _ _ _ _) e ∙ sym c.decode-r.ensures ∙ c.in-Valid.is) n)
