@@ -1,4 +1,4 @@
--- The two ways out of the bench's call, and that its promise has one answer: `one-run`.
+-- The two ways out of the bench's call, and that its promise has one answer: `one_run`.
 -- Assumes nothing.
 use Prim.Native.Nat.{ℕ, ◌+◌, ◌*◌, ◌/◌, ◌≤◌, ◌<◌}
 use mathlib.Core.Path.{◌≡◌, sym, ap, ◌∙◌}

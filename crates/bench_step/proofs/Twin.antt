@@ -1,7 +1,7 @@
--- The step on record bytes against the step on an event. `is-step`: if the bytes decode to an event, it gives what that event's step
--- gives. `is-the-step`: so do the four bytes that any event is written as. `is-refused`: if they do not decode to one, it gives 8 for a
--- device out of its ranges, else the decoder's 3 or 4. `is-out`: out of its ranges it gives 8, whatever the bytes.
--- `one-step`: two results that meet the promise are equal, device included.
+-- The step on record bytes against the step on an event. `is_step`: if the bytes decode to an event, it gives what that event's step
+-- gives. `is_the_step`: so do the four bytes that any event is written as. `is_refused`: if they do not decode to one, it gives 8 for a
+-- device out of its ranges, else the decoder's 3 or 4. `is_out`: out of its ranges it gives 8, whatever the bytes.
+-- `one_step`: two results that meet the promise are equal, device included.
 -- Assumes nothing.
 use Prim.Native.Nat.{ℕ}
 use mathlib.Core.Path.{◌≡◌, refl, sym, ◌∙◌}

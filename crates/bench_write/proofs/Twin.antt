@@ -1,6 +1,6 @@
--- The writer of record bytes against the writer of events. `is-event`: if the bytes read as an event, it is that event's writer.
--- `is-the-writer`: so it is for the four bytes that any event is written as. `is-refused`: if they do not read as one, it gives the decoder's
--- 3 or 4. `one-record`: two results that meet the promise are equal, and so are their buffers.
+-- The writer of record bytes against the writer of events. `is_event`: if the bytes read as an event, it is that event's writer.
+-- `is_the_writer`: so it is for the four bytes that any event is written as. `is_refused`: if they do not read as one, it gives the decoder's
+-- 3 or 4. `one_record`: two results that meet the promise are equal, and so are their buffers.
 -- Assumes nothing.
 use Prim.Native.Nat.{ℕ}
 use mathlib.Core.Path.{◌≡◌, refl, ◌∙◌}

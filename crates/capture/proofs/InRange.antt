@@ -1,4 +1,4 @@
--- The ranges, opened, and that every byte keeps them: `turn-ranges`.
+-- The ranges, opened, and that every byte keeps them: `turn_ranges`.
 -- Assumes nothing.
 use Prim.Native.Nat.{ℕ, ◌+◌, ◌-◌, ◌*◌, ◌^◌, ◌≤◌, ◌<◌, zero-le}
 use mathlib.Core.Path.{◌≡◌, refl, sym, ap, ◌∙◌}

@@ -1,4 +1,4 @@
--- 256 to the power of the count bytes taken: `limit-next`, one more byte keeps the record count below it; and it is at most 256 to the power 4.
+-- 256 to the power of the count bytes taken: `limit_next`, one more byte keeps the record count below it; and it is at most 256 to the power 4.
 -- Assumes nothing.
 use Prim.Native.Nat.{ℕ, zero, suc, ◌+◌, ◌*◌, min, ◌≤◌, ◌<◌}
 use mathlib.Core.Path.{◌≡◌}

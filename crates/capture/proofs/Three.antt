@@ -1,4 +1,4 @@
--- Three bytes of a record carried at once are three bytes carried one by one: `three-ahead` and `three-ranges`.
+-- Three bytes of a record carried at once are three bytes carried one by one: `three_ahead` and `three_ranges`.
 -- Assumes nothing.
 use Prim.Native.Nat.{ℕ, ◌<◌}
 use mathlib.Core.Path.{◌≡◌, sym, ap, ◌∙◌}

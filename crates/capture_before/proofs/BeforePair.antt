@@ -1,5 +1,5 @@
--- A capture with a device count of 1 has, byte for byte, the outcome of the definition before request c: `one-as-before`. So has every byte string that
--- does not begin with a device count of 2: `as_before`. `decode-before`: under a count of 1 four bytes read as then; `of-that-time`: no record of that
+-- A capture with a device count of 1 has, byte for byte, the outcome of the definition before request c: `one_as_before`. So has every byte string that
+-- does not begin with a device count of 2: `as_before`. `decode_before`: under a count of 1 four bytes read as then; `of_that_time`: no record of that
 -- time is an event of a second device.
 -- Assumes nothing.
 use Prim.Native.Nat.{ℕ, ◌+◌}

@@ -1,6 +1,6 @@
 -- The table of codes, both ways. `exactly`: a call gives a code exactly if its line of the table says so, whatever the state (of three
--- places for carried bytes, as every `Reader` has), the bytes and the room. `finish-exactly`: the same of asking to finish. `call-code` and
--- `finish-code`: whatever the state, the bytes and the room, the code is one of the table's.
+-- places for carried bytes, as every `Reader` has), the bytes and the room. `finish_exactly`: the same of asking to finish. `call_code` and
+-- `finish_code`: whatever the state, the bytes and the room, the code is one of the table's.
 -- Assumes nothing.
 use Prim.Native.Nat.{ℕ, ◌-◌}
 use mathlib.Core.Path.{◌≡◌, refl, ◌∙◌}

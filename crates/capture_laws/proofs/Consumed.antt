@@ -1,6 +1,6 @@
--- Every byte that is taken stands in the state: `run-consumed`, of a run; `whole-consumed`, of a whole capture, whose end state then tells
--- how much of it was consumed; and, `refused-next`, if it is refused, the byte behind those is the refused one.
--- `consumed-most`: a state in its ranges has taken fewer bytes than `capture_most`.
+-- Every byte that is taken stands in the state: `run_consumed`, of a run; `whole_consumed`, of a whole capture, whose end state then tells
+-- how much of it was consumed; and, `refused_next`, if it is refused, the byte behind those is the refused one.
+-- `consumed_most`: a state in its ranges has taken fewer bytes than `capture_most`.
 -- Assumes nothing.
 use Prim.Native.Nat.{ℕ, ◌+◌, ◌^◌, ◌≤◌, ◌<◌}
 use mathlib.Core.Path.{◌≡◌, refl, sym, ◌∙◌}

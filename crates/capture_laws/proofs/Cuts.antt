@@ -1,5 +1,5 @@
 -- Demand 3. `cuts`: a capture cut anywhere, its parts fed in order, whatever buffers the calls are lent, a retry after each 7 and only
--- then, gives what the whole-capture definition gives. `whole-call`: so does one call with room for every answer. `determined`: two results
+-- then, gives what the whole-capture definition gives. `whole_call`: so does one call with room for every answer. `determined`: two results
 -- that meet feed's promise are equal, buffer included.
 -- Assumes nothing.
 use Prim.Native.Nat.{ℕ, zero, suc, ◌≤◌}

@@ -1,5 +1,5 @@
 -- `all_end`: whatever buffers the calls are lent, two bytes or more after each 7, feeding the parts of a capture with exactly those buffers
--- comes to an end. A call that follows a 7 writes a pair and consumes a byte (`retry`), so that the unread rest is shorter. `all-as-whole`:
+-- comes to an end. A call that follows a 7 writes a pair and consumes a byte (`retry`), so that the unread rest is shorter. `all_as_whole`:
 -- from a fresh state that end is the whole capture's.
 -- Assumes nothing.
 use Prim.Native.Nat.{ℕ, zero, suc, ◌≤◌}

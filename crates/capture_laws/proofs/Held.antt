@@ -1,4 +1,4 @@
--- The codes that a state can hold, 0 to 5 and 9, one by one: `by_code`. So `not-seven`: a call gives 7, and no state holds it.
+-- The codes that a state can hold, 0 to 5 and 9, one by one: `by_code`. So `not_seven`: a call gives 7, and no state holds it.
 -- Assumes nothing.
 use Prim.Native.Nat.{ℕ, zero, suc, ◌≤◌}
 use mathlib.Core.Path.{◌≡◌, sym, subst}

@@ -1,5 +1,5 @@
--- The code of a call in the records, those ahead judged in order by fours: `by-line`, each line of the table that is about records gives its
--- code, and `has-line`, the code given has its line.
+-- The code of a call in the records, those ahead judged in order by fours: `by_line`, each line of the table that is about records gives its
+-- code, and `has_line`, the code given has its line.
 -- Assumes nothing.
 use Prim.Native.Nat.{ℕ, zero, suc, ◌+◌, ◌-◌, ◌*◌, ◌≤◌, ◌<◌}
 use mathlib.Core.Path.{◌≡◌, refl, ap, ◌∙◌}

@@ -1,6 +1,6 @@
--- A call with any room against the run with room for all. `feed-fits`: where the answers fit, they are the same. `feed-short`: where they
+-- A call with any room against the run with room for all. `feed_fits`: where the answers fit, they are the same. `feed_short`: where they
 -- do not, the code is 7, the pairs that fit are the first of the run's, and the bytes consumed are the most of which all answers fit.
--- `one-short`: that determines the outcome.
+-- `one_short`: that determines the outcome.
 -- Assumes nothing.
 use Prim.Native.Nat.{ℕ, suc, ◌+◌, ◌-◌, ◌*◌, ◌/◌, ◌≤◌, ◌<◌}
 use mathlib.Core.Path.{◌≡◌, refl, sym, ap, ◌∙◌}

@@ -1,5 +1,5 @@
 -- A run of a whole capture, byte by byte, is what its sections and its records by fours give: `whole_run`. And its field for the
--- finishing code is what asking the end state to finish gives: `whole-finishing`.
+-- finishing code is what asking the end state to finish gives: `whole_finishing`.
 -- Assumes nothing.
 use Prim.Native.Nat.{ℕ, ◌+◌, ◌*◌, ◌≤◌, ◌<◌}
 use mathlib.Core.Path.{◌≡◌, refl, sym, ap, ◌∙◌}

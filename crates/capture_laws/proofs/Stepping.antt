@@ -1,4 +1,4 @@
--- The records are done by demand 2. `step-by-step`: of every byte string, the whole-capture definition gives the answers and the bus of doing the
+-- The records are done by demand 2. `step_by_step`: of every byte string, the whole-capture definition gives the answers and the bus of doing the
 -- capture's events one after the other from power-on; each of its devices is stepped by value, with code 0, through the events that it sees.
 -- Assumes nothing.
 use Prim.Native.Nat.{ℕ, zero, suc, ◌+◌, ◌-◌, ◌*◌}

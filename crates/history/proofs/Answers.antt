@@ -1,5 +1,5 @@
 -- A record's answer, by the account. `answering`: the first answer byte of a capture's record is that of the bus before it and the record's event.
--- `some-record`: every number up to the record count has its event. `taken-bit`: of an accepted capture, D3 of a conversion's answer is set exactly if the
+-- `some_record`: every number up to the record count has its event. `taken_bit`: of an accepted capture, D3 of a conversion's answer is set exactly if the
 -- account before it says that it is taken.
 -- Assumes nothing.
 use mathlib.Core.Path.{◌≡◌, refl, sym, ap, ◌∙◌}

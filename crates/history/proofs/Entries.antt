@@ -1,5 +1,5 @@
--- `each-listed`: every conversion that an account lists is listed with the settings in force before its record and the fault count behind it, which
--- are the device's (`History.antt: in-force`).
+-- `each_listed`: every conversion that an account lists is listed with the settings in force before its record and the fault count behind it, which
+-- are the device's (`History.antt: in_force`).
 -- Assumes nothing.
 use mathlib.Core.Path.{◌≡◌, refl, sym, subst, ◌∙◌}
 use mathlib.Core.Bool.{Bool, true, false, cond}

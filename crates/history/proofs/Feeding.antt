@@ -1,6 +1,6 @@
--- `fed-state`: the state that feeding leaves, call by call with whatever buffers, after 7 too, is that of the whole-capture definition for the bytes
+-- `fed_state`: the state that feeding leaves, call by call with whatever buffers, after 7 too, is that of the whole-capture definition for the bytes
 -- consumed so far. `goes_on`: with the bytes of a capture whose code is 0, behind those, a call gives 0 or 7 and nothing else.
--- `held-to-the-end`: no capture whose code is 0 has a front that is refused.
+-- `held_to_the_end`: no capture whose code is 0 has a front that is refused.
 -- Assumes nothing.
 use mathlib.Core.Path.{◌≡◌, sym, ap, subst, ◌∙◌}
 use mathlib.Core.Bool.{true}

@@ -1,4 +1,4 @@
--- One device and its account go together. `begins`: at power-on. `own-record`: over every event that is not the other device's conversion, the
+-- One device and its account go together. `begins`: at power-on. `own_record`: over every event that is not the other device's conversion, the
 -- device does what P1 to P12 say and the account notes the record, and they still agree. `unnoted`: the other's conversions and alert responses are
 -- not noted.
 -- Assumes nothing.

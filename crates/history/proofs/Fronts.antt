@@ -1,5 +1,5 @@
--- The front of a capture: its header and some bytes behind it. `headed`: a capture whose finishing code is 0 has a complete header. `front-variants`,
--- `front-bus`, `front-events`: of its front the variants and the bus at them are the same, and the events are its first ones, one for each four bytes.
+-- The front of a capture: its header and some bytes behind it. `headed`: a capture whose finishing code is 0 has a complete header. `front_variants`,
+-- `front_bus`, `front_events`: of its front the variants and the bus at them are the same, and the events are its first ones, one for each four bytes.
 -- `reached`: of an accepted capture's first k records no byte is refused, so many records are done, and the answers are its first ones. `all`: with
 -- k its record count they are the capture.
 -- Assumes nothing.

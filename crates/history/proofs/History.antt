@@ -1,8 +1,8 @@
 -- Request e. `history`: of every accepted capture, after any of its records, for each device on its bus and each channel, the latch is set exactly
 -- if some taken conversion since the last power-on made the channel's T_CRIT bit live under the settings then in force, and no taken conversion
--- after it read strictly below the limit less hysteresis in force at that later one. `history-clear`: it is clear exactly if not. `history-fed`: so is the
+-- after it read strictly below the limit less hysteresis in force at that later one. `history_clear`: it is clear exactly if not. `history_fed`: so is the
 -- latch of every state that feeding the capture's bytes leaves, wherever they end behind the header, within a record and after 7 too.
--- `history-of-bytes`: and that of any byte string, accepted or not, after its complete, counted, valid records up to the first refused one. `in-force`: the
+-- `history_of_bytes`: and that of any byte string, accepted or not, after its complete, counted, valid records up to the first refused one. `in_force`: the
 -- account's settings are the device's but for D7, and its one-shot and fault count are the device's. `tells`: latches, LCRIT and RCRIT of the live
 -- byte, and both readings are those that the account says.
 -- Assumes nothing.

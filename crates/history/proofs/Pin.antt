@@ -1,5 +1,5 @@
 -- Request e, T_CRIT_A. `pin`: D1 of a record's answer is what the accounts and the masks in force after that record say. `pulled`: that is, some
--- device on the bus has a channel that is not masked and that is set by its account. `pin-exactly`: both joined. `pin-stays`: a read, a
+-- device on the bus has a channel that is not masked and that is set by its account. `pin_exactly`: both joined. `pin_stays`: a read, a
 -- send or a receive, a status read among them, leaves it.
 -- Assumes nothing.
 use mathlib.Core.Path.{◌≡◌, refl, sym, ap, ◌∙◌}

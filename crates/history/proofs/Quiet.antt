@@ -1,6 +1,6 @@
--- Request e, what may move a verdict. `conversions-stay`: a record that is neither a conversion of the device nor a power-on leaves the conversions
--- that its account lists, and so `verdict-stays` and, in an accepted capture, `latch-stays`. `reads-leave`: a read, a send or a receive, a status read
--- among them, leaves the whole account, and so does a conversion that is not taken, `untaken-leaves`. `power-on-forgets`: after a power-on the account is
+-- Request e, what may move a verdict. `conversions_stay`: a record that is neither a conversion of the device nor a power-on leaves the conversions
+-- that its account lists, and so `verdict_stays` and, in an accepted capture, `latch_stays`. `reads_leave`: a read, a send or a receive, a status read
+-- among them, leaves the whole account, and so does a conversion that is not taken, `untaken_leaves`. `power_on_forgets`: after a power-on the account is
 -- that of a device at power-on, and `forgotten`: what came before it bears on nothing after it.
 -- Assumes nothing.
 use mathlib.Core.Path.{◌≡◌, refl, sym, ap, ◌∙◌}

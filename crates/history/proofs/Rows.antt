@@ -1,4 +1,4 @@
--- Over the events of any byte string. `of-bytes`: each device that a capture puts on its bus, as the whole-capture definition leaves it, follows the
+-- Over the events of any byte string. `of_bytes`: each device that a capture puts on its bus, as the whole-capture definition leaves it, follows the
 -- account of all its events. `next`: a record more, in the account.
 -- Assumes nothing.
 use mathlib.Core.Path.{◌≡◌, refl, sym, ap, subst, ◌∙◌}

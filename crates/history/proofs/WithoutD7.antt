@@ -1,5 +1,5 @@
 -- What the settings lose with D7 of configuration: nothing that a latch looks at. `low_bit`: every other bit of configuration stays. `masking`:
--- setting D7 is not seen. `changing`: a change of any register is seen alike. `same-reading`, `same-limits`, `same-crit`, `same-hysteresis`: the
+-- setting D7 is not seen. `changing`: a change of any register is seen alike. `same_reading`, `same_limits`, `same_crit`, `same_hysteresis`: the
 -- offset, the remote limits, both T_CRIT and the hysteresis stay.
 -- Assumes nothing.
 use mathlib.Core.Path.{◌≡◌, refl, sym, ap, ◌∙◌}

@@ -200,7 +200,7 @@ histories =
     -- reads, sends, receives and writes at another address, to a register that is none and to one that is read only move no verdict: 74 clears by 75
     of (local 86 ∷ line 0x02 0x4C 0x02 0 ∷ line 0x03 0x4C 0x02 0 ∷ line 0x04 0x4C 0 0 ∷ put_other 0x20 0 ∷ put 0x30 0 ∷ put 0x03 0x40 ∷ local 74 ∷ [])
     local_channel (false ∷ true ∷ true ∷ true ∷ true ∷ true ∷ true ∷ true ∷ false ∷ []) ∷
-    -- nor does an alert response, which is acknowledged here (`alert-answered`), nor the status read behind it
+    -- nor does an alert response, which is acknowledged here (`alert_answered`), nor the status read behind it
     of alerted local_channel (false ∷ true ∷ true ∷ true ∷ true ∷ false ∷ []) ∷
     -- two devices: 05 and 06 are of the first, 08 and 09 of the second, and the other's do not count, to set or to clear
     of_first (local 86 ∷ line 0x08 25 25 0 ∷ line 0x09 25 0 0 ∷ []) local_channel (false ∷ true ∷ true ∷ true ∷ []) ∷

@@ -1,4 +1,4 @@
--- `turns-end`: however an input is cut into parts of 1 to 65,536 bytes, and whatever buffers of the listing's sizes are lent, its turns
+-- `turns_end`: however an input is cut into parts of 1 to 65,536 bytes, and whatever buffers of the listing's sizes are lent, its turns
 -- over exactly these parts come to an end with an output, for which `lists` holds.
 -- Assumes nothing.
 use Prim.Native.Nat.{ℕ, ◌≤◌}

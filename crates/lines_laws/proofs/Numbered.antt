@@ -1,4 +1,4 @@
--- Lines with room for all of them: `lines-all`, where no number goes round, they are the listing's. And lines joined: `lines-append`.
+-- Lines with room for all of them: `lines_all`, where no number goes round, they are the listing's. And lines joined: `lines_append`.
 -- Assumes nothing.
 use Prim.Native.Nat.{ℕ, ◌+◌, ◌-◌, ◌*◌, ◌≤◌, ◌<◌}
 use mathlib.Core.Path.{◌≡◌, refl, sym, ap, ◌∙◌}

@@ -1,6 +1,6 @@
 -- `lists`: what the listing's turns and its end line write is the listing of the whole capture, whatever the parts it was read in and
--- whatever it left unread; `last-whole`, `last-finishing`: the state that they leave is the whole capture's, and so is its finishing code.
--- `never-full`: the listing's buffers hold all that a turn gives.
+-- whatever it left unread; `last_whole`, `last_finishing`: the state that they leave is the whole capture's, and so is its finishing code.
+-- `never_full`: the listing's buffers hold all that a turn gives.
 -- Assumes nothing.
 use Prim.Native.Nat.{ℕ, ◌+◌, ◌*◌}
 use mathlib.Core.Path.{◌≡◌, refl, sym, ap, ◌∙◌}

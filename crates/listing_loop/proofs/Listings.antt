@@ -1,6 +1,6 @@
--- `is-listing`: a whole listing tells what the whole-capture definition gives, and its output is the capture's listing, whatever the parts
--- it was read in and whatever was left unread. So, `one-listing`, two whole listings of one input are equal, and so are their outputs.
--- `allowed`: of every capture, however it is cut into parts that are read, the promise allows that result, of those parts. `two-parts` is
+-- `is_listing`: a whole listing tells what the whole-capture definition gives, and its output is the capture's listing, whatever the parts
+-- it was read in and whatever was left unread. So, `one_listing`, two whole listings of one input are equal, and so are their outputs.
+-- `allowed`: of every capture, however it is cut into parts that are read, the promise allows that result, of those parts. `two_parts` is
 -- one of them, worked.
 -- Assumes nothing.
 use Rattle.std.proofs.Common.{◌≡◌, ℕ, ◌≤◌, List, [], ◌∷◌, ◌++◌, length, replicate, sym, ap, ◌∙◌, append-nil, arith}

@@ -1,4 +1,4 @@
--- The loop of `back`: what is read, and what is left. `latest-first`: the records from the end backwards are those at falling places of the byte string.
+-- The loop of `back`: what is read, and what is left. `latest_first`: the records from the end backwards are those at falling places of the byte string.
 -- Assumes nothing.
 use Prim.Native.Nat.{ℕ, zero, suc, ◌+◌, ◌-◌, ◌*◌, ◌/◌, ◌%◌, ◌<◌}
 use mathlib.Core.Path.{◌≡◌, refl, sym, ap, ◌∙◌}

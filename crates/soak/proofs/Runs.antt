@@ -1,4 +1,4 @@
--- Conversions in run mode. `converts`: a valid 05 or 06 is a conversion that every device in run mode takes. `running-after`, `settings-after`: they leave
+-- Conversions in run mode. `converts`: a valid 05 or 06 is a conversion that every device in run mode takes. `running_after`, `settings_after`: they leave
 -- it in run mode, under the same settings. `alone`: what they make of a channel's latch depends on the settings, on that latch and, on the remote channel,
 -- on the fault count before them, and on nothing else.
 -- Assumes nothing.

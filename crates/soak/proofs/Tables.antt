@@ -1,5 +1,5 @@
 -- What the program keeps of the records read, `ends_by`: for each channel and fault count, what they make of a latch that was clear and of one that was set.
--- `before-is`: with one record more before them it is what the program works out. `decided-is`: it tells whether both channels are decided. `pulled-is`: it
+-- `before_is`: with one record more before them it is what the program works out. `decided_is`: it tells whether both channels are decided. `pulled_is`: it
 -- tells T_CRIT_A after the records read.
 -- Assumes nothing.
 use Prim.Native.Nat.{ℕ, zero, suc, ◌≤◌}

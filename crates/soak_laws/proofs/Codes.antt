@@ -1,5 +1,5 @@
 -- `codes`: a soak gives a code exactly if its line of the table says so, `Gives`: 8, 10, 4 for the length, then 3 or 4 at the first record met that is no
--- valid 05 or 06, else 0. `refused-at`: that record is counted among those read.
+-- valid 05 or 06, else 0. `refused_at`: that record is counted among those read.
 -- Assumes nothing.
 use Prim.Native.Nat.{ℕ, zero, suc, ◌+◌, ◌%◌, ◌≤◌}
 use mathlib.Core.Path.{◌≡◌, refl, sym, ap, ◌∙◌}

@@ -1,6 +1,6 @@
--- Of conversions read: `exactly`, the test says yes exactly if they give the same latch for every earlier latch and fault count. `any-alike`: then they give it
--- from every device in run mode under the same settings. `none-decides`: with no record read no channel is decided. `of-both`, `both`, `one-open`: the same
--- of both channels. `pin-any`: then T_CRIT_A is the same from all those devices.
+-- Of conversions read: `exactly`, the test says yes exactly if they give the same latch for every earlier latch and fault count. `any_alike`: then they give it
+-- from every device in run mode under the same settings. `none_decides`: with no record read no channel is decided. `of_both`, `both`, `one_open`: the same
+-- of both channels. `pin_any`: then T_CRIT_A is the same from all those devices.
 -- Assumes nothing.
 use Prim.Native.Nat.{ℕ, zero, suc, ◌≤◌}
 use mathlib.Core.Path.{◌≡◌, refl, sym, ◌∙◌}

@@ -1,5 +1,5 @@
--- `full-run`: if every record of the stretch is a valid 05 or 06, the answer is that of the full run of the one-device definition from the state given.
--- `last-answer`: it is D1 of the last answer of that run. `empty-stretch`: an empty stretch answers from that state.
+-- `full_run`: if every record of the stretch is a valid 05 or 06, the answer is that of the full run of the one-device definition from the state given.
+-- `last_answer`: it is D1 of the last answer of that run. `empty_stretch`: an empty stretch answers from that state.
 -- Assumes nothing.
 use Prim.Native.Nat.{ℕ, suc, ◌%◌, ◌<◌}
 use mathlib.Core.Path.{◌≡◌, refl, sym, ap, ◌∙◌}

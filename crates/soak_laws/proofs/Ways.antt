@@ -1,4 +1,4 @@
--- How reading backwards goes: `back-ind`, what holds where it ends and is handed on from the records behind it holds of every reading. And what the records
+-- How reading backwards goes: `back_ind`, what holds where it ends and is handed on from the records behind it holds of every reading. And what the records
 -- read are: `onto`, their events in order.
 -- Assumes nothing.
 use Prim.Native.Nat.{ℕ, ◌+◌}

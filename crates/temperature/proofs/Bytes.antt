@@ -1,4 +1,4 @@
--- P1 both ways: two bytes and their eighths determine each other. `bytes_back` and `eighths-back` are the sentences to quote:
+-- P1 both ways: two bytes and their eighths determine each other. `bytes_back` and `eighths_back` are the sentences to quote:
 -- every high byte with every low byte that is a multiple of 32 comes back from its eighths, and every reading on the scale
 -- comes back from its two bytes.
 -- Assumes nothing.

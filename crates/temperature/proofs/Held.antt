@@ -1,5 +1,5 @@
--- Request b, of every sum: `held_tells`, a reading was held exactly if its sum is above 1023 or below -1024; `held-eighths`, the reading itself;
--- `held-not`, one that was not held is its sum; `held_high` and `held_low`, one that was is the end of the scale that its sum lies beyond; `held-other`,
+-- Request b, of every sum: `held_tells`, a reading was held exactly if its sum is above 1023 or below -1024; `held_eighths`, the reading itself;
+-- `held_not`, one that was not held is its sum; `held_high` and `held_low`, one that was is the end of the scale that its sum lies beyond; `held_other`,
 -- and so it is not its sum.
 -- Assumes nothing.
 use mathlib.Core.Path.{◌≡◌, refl, sym, ◌∙◌}

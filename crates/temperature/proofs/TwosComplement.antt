@@ -1,4 +1,4 @@
--- P1 for every byte: `degrees-signed`, D7 of a byte counts -128 and the other seven bits as they stand; `eighths-signed`, D7 of the high byte
+-- P1 for every byte: `degrees_signed`, D7 of a byte counts -128 and the other seven bits as they stand; `eighths_signed`, D7 of the high byte
 -- counts -1024 eighths, its other bits 8 each, and D7, D6 and D5 of the low byte 4, 2 and 1; its other bits count nothing.
 -- Assumes nothing.
 use mathlib.Core.Path.{◌≡◌, refl, ap, ◌∙◌}

@@ -1,4 +1,4 @@
--- `whole`: a byte with no eighths is its degrees times 8. `in-degrees`: two such compare in eighths as they do in degrees.
+-- `whole`: a byte with no eighths is its degrees times 8. `in_degrees`: two such compare in eighths as they do in degrees.
 -- Assumes nothing.
 use mathlib.Core.Path.{◌≡◌}
 use Prim.Native.Nat.{ℕ, ◌+◌, ◌*◌}
