@@ -1,3 +1,4 @@
+#![tactic(auto)]
 // The reader for C: a capture in parts of any size, with any room for answers.
 ghost use Rattle.std.specs.Prelude.{◌≡◌};
 ghost use Rattle.capture.specs.Reader.{fresh_of, finish_of, FedWith};
