@@ -1,3 +1,5 @@
+#![tactic(auto)]
+
 // The bench's call on a whole capture, for C.
 ghost use Rattle.std.specs.Prelude.{◌≡◌};
 ghost use Rattle.bench.specs.Bench.{last_of, RanWhole};
