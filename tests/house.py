@@ -1,20 +1,54 @@
 #!/usr/bin/env python3
-"""House rules that the prover does not check; exits 1 and names each place that breaks one.
+"""House rules that the prover does not check; exits 1 and names each place that breaks one. Layout is the toolchain's: `rt ci` refuses what `rt fmt` would change.
 
 - a `use` line brings in nothing that its file does not name;
-- a public function has an `ensures` and no `requires` (`pub(crate)` is private);
+- a public function has an `ensures` that says something, and no `requires` (`pub(crate)` is private);
 - a function has at most 40 lines;
 - a line of a crate or of a document has at most 200 characters, though 160 are asked for.
+
+Before it reads the crates it is held to sources that break these rules (BREAK) and to some that do not (KEEP).
 """
 import pathlib
 import re
 import sys
 
+import contracts
+
 ROOT = pathlib.Path(__file__).resolve().parent.parent
 LINE_MOST = 200
-# a line on which a function's body begins
-OPENS = re.compile(r"^\{\s*$|\) \{\s*$|-> \S.* \{$")
+LINES_MOST = 40
+# the folder of what the prover leaves beside a crate
+MADE = "out"
+USE = re.compile(r"(?:ghost )?use ")
 WORD = re.compile(r"[^\s(){}\[\],;.]+")
+NAME = re.compile(r"[\w«»·'′-]+")
+# sources, and a word of what must be told of each
+BREAK = (
+    ("pub fn f(a: u8) -> u8\n{\n    a\n}\n", "promises nothing"),
+    ("pub fn f(a: u8) -> u8 {\n    a\n}\n", "promises nothing"),
+    ("pub extern \"C\" fn f(a: u8) -> u8\n    ensures {  }\n{\n    a\n}\n", "promises nothing"),
+    ("pub fn f(a: u8) -> u8\n    // ensures { result ≡ a }\n{\n    a\n}\n", "promises nothing"),
+    ("pub fn f(a: u8) -> u8\n    requires { a < 3 }\n    ensures { result ≡ a }\n{\n    a\n}\n", "has a requires"),
+    ("pub fn f(a: u8) -> u8\n    requires small { a < 3 }\n    ensures same { result ≡ a }\n    ensures low { result < 3 }\n{\n    a\n}\n", "has a requires"),
+    ("impl S {\n    pub fn f(self) -> u8\n    {\n        1\n    }\n}\n", "promises nothing"),
+    ("fn f() {\n" + "    g();\n" * 39 + "}\n", "has 41 lines"),
+    ("fn f(a: u8) -> u8;\n", "cannot be read"),
+    ("fn f(a: u8) -> u8\n    ensures result ≡ a\n{\n    a\n}\n", "cannot be read"),
+    ("ghost use Rattle.std.specs.Prelude.{◌+◌, ◌≡◌};\nfn f(a: u8) -> u8\n    ensures { result ≡ a }\n{\n    a\n}\n", "unused import ◌+◌"),
+    ("use Rattle.std.specs.Prelude.{if◌then◌else◌}\nf a = if a then b\n", "unused import if◌then◌else◌"),
+    ("use Rattle.a.specs.B.{word_of}\nf a = word_off a (word_ of) -- word_of\n", "unused import word_of"),
+    ("use Rattle.a.specs.B.{words}\n-- words\n", "unused import words"),
+    ("use Rattle.a.proofs.f.Goals as goal\nf = goals.End\n", "unused import goal"),
+    ("use Rattle.a.specs.B.{\n  word_of}\nf = word_of\n", "cannot be read"),
+)
+KEEP = (
+    "pub fn f(a: u8) -> u8\n    ensures { result ≡ a }\n{\n    a\n}\n",
+    "#[unsafe(no_mangle)]\npub extern \"C\" fn f(a: [u8; 14]) -> [[u8; 2]; 8]\n    ensures same { result ≡ f_of {n = 3} a }\n    ensures low { result < 3 }\n{\n    a\n}\n",
+    "pub(crate) fn f(a: u8) -> u8\n    requires { a < 3 }\n    ensures { result ≡ a }\n{\n    a\n}\n",
+    "fn f() {\n" + "    g();\n" * 38 + "}\n",
+    "ghost use Rattle.std.specs.Prelude.{◌≡◌, ◌&&◌, []};\nfn f(a: u8) -> u8\n    ensures { result ≡ (a && g []) }\n{\n    a\n}\n",
+    "use Rattle.a.proofs.f.Goals as goal\nuse Rattle.a.specs.B.{word_of, ◌∷◌}\nf = goal.End (word_of.x ∷ xs)\n",
+)
 
 
 def imported(line):
@@ -29,64 +63,69 @@ def imported(line):
     return [re.split(r"::", line.rstrip(";"))[-1].strip()] if "::" in line else []
 
 
-def unused(path):
-    lines = path.read_text().split("\n")
-    uses = [l for l in lines if re.match(r"(ghost )?use ", l)]
-    body = "\n".join(l for l in lines if not re.match(r"(ghost )?use |\s*--|\s*//", l))
-    words = set(WORD.findall(body)) | set(re.findall(r"[\w«»·′-]+", body)) | {"[]"} & {body[i : i + 2] for i in range(len(body))}
-    for use in uses:
+def unused(text):
+    """The names imported that the rest of the text does not have; an operator's are the parts beside its places."""
+    lines = text.split("\n")
+    body = "\n".join(re.sub(r"(^|\s)(--\s|//).*", "", line) for line in lines if not USE.match(line))
+    words = set(WORD.findall(body)) | set(NAME.findall(body))
+    for use in filter(USE.match, lines):
+        if use.count("{") != use.count("}"):
+            yield f"an import that cannot be read: {use}"
+            continue
         for name in imported(use):
-            parts = [p for p in name.split("_") if p] if name.startswith("_") or name.endswith("_") else [name]
-            if not all(p in words for p in parts):
-                yield f"{path.relative_to(ROOT)}: unused import {name}"
+            parts = [part for part in name.split("◌") if part] if "◌" in name else [name]
+            if not all(part in words or (not WORD.search(part) and part in body) for part in parts):
+                yield f"unused import {name}"
 
 
-def functions(path):
-    """(line, header, length) of each function."""
-    lines = path.read_text().split("\n")
-    at = 0
-    while at < len(lines):
-        if re.match(r"\s*(pub(\(crate\))? )?(extern \"C\" )?fn ", lines[at]):
-            end = at
-            while not lines[end].startswith("}"):
-                end += 1
-            open_brace = at
-            while not OPENS.search(lines[open_brace]):
-                open_brace += 1
-            yield at + 1, "\n".join(lines[at : open_brace + 1]), end - at + 1
-            at = end
-        at += 1
-
-
-def promises(path):
-    program = path.name == "main.rt"
-    for line, header, length in functions(path):
-        name = re.search(r"fn (\w+)", header).group(1)
-        where = f"{path.relative_to(ROOT)}:{line}: {name}"
-        if length > 40:
-            yield f"{where} has {length} lines"
-        if re.match(r"pub (extern|fn)", header) and not program:
-            if "ensures" not in header:
+def promises(text):
+    """What is wrong with the functions of a source, each with its line."""
+    try:
+        functions = contracts.functions(text)
+    except contracts.Unread as fault:
+        yield f"cannot be read: {fault}"
+        return
+    for function in functions:
+        where = f"{function.line}: {function.name}"
+        if function.lines > LINES_MOST:
+            yield f"{where} has {function.lines} lines"
+        if function.public:
+            if not function.kind("ensures") or "" in function.kind("ensures"):
                 yield f"{where} is public and promises nothing"
-            if "requires" in header:
+            if function.kind("requires"):
                 yield f"{where} is public and has a requires"
 
 
-def long_lines(path):
-    for number, line in enumerate(path.read_text().split("\n"), 1):
+def long_lines(text):
+    for number, line in enumerate(text.split("\n"), 1):
         if len(line) > LINE_MOST:
-            yield f"{path.relative_to(ROOT)}:{number}: {len(line)} characters"
+            yield f"{number}: {len(line)} characters"
+
+
+def would_be_noticed():
+    """Where these rules read a source wrongly."""
+    for source, told in BREAK:
+        found = [*promises(source), *unused(source)]
+        if not any(told in fault for fault in found):
+            yield f"tests/house.py does not tell '{told}' of: {source}"
+    for source in KEEP:
+        for fault in [*promises(source), *unused(source)]:
+            yield f"tests/house.py tells '{fault}' of: {source}"
 
 
 def main():
-    faults = []
-    for path in sorted([*ROOT.glob("*.md"), *ROOT.glob("docs/**/*.md"), *ROOT.glob("crates/**/*.antt"), *ROOT.glob("crates/**/*.rt")]):
-        faults += long_lines(path)
-    for path in sorted((ROOT / "crates").rglob("*.antt")):
-        faults += unused(path)
-    for path in sorted((ROOT / "crates").rglob("*.rt")):
-        faults += unused(path)
-        faults += promises(path)
+    faults = list(would_be_noticed())
+    sources, theories = ([path for path in sorted((ROOT / "crates").rglob(kind)) if MADE not in path.parts] for kind in ("*.rt", "*.antt"))
+    for path in sorted([*ROOT.glob("*.md"), *ROOT.glob("docs/**/*.md"), *theories, *sources]):
+        faults += [f"{path.relative_to(ROOT)}:{fault}" for fault in long_lines(path.read_text())]
+    for path in [*theories, *sources]:
+        faults += [f"{path.relative_to(ROOT)}: {fault}" for fault in unused(path.read_text())]
+    for path in sources:
+        # programs' functions are for no crate, and have no promise of their own
+        found = promises(path.read_text())
+        faults += [f"{path.relative_to(ROOT)}:{fault}" for fault in found if path.name != "main.rt" or "is public" not in fault]
+    if not sources or not theories:
+        faults.append("no source was found: this test looks for them in the wrong place")
     for fault in faults:
         print(f"house: {fault}")
     print(f"house: {len(faults)} fault(s)")
