@@ -4,8 +4,8 @@ Verdict.antt) imports or names a definition or a type that reaches the model's s
 
 What a name reaches is followed definition by definition, through imports, constructors, and the fields of the program's own types. In every file that is
 read these are faults too, since a name could come in by them unseen: an import of another form than `use MODULE.{NAMES}`, one of a crate's proofs, one of a
-name that is not there or that is imported already, a name by its whole path or in quotes, a module or a block within which others stand, a comment in braces,
-and an operator's definition. And so is a forbidden name that no longer exists.
+name that is not there or that is imported already, a name by its whole path or in quotes, fields that are opened, a module or a block within which others
+stand, a comment in braces, an operator's definition, and a type with ghost members. And so is a forbidden name that no longer exists.
 A latch of the account's own making, kept by its own rule, would pass: that there is none is to be seen by reading the two files.
 """
 import pathlib
@@ -17,18 +17,19 @@ ACCOUNT = ("history/specs/Account.antt", "history/specs/Verdict.antt")
 # types of the program by CRATE::NAME, definitions by FILE: NAME
 FORBIDDEN = (
     "conversion::Sensed", "device::Device", "device::Outcome", "device::Stepped", "device::Pins", "pair::Bus", "capture::Reader",
-    "conversion/specs/Conversion.antt: liveOf", "conversion/specs/Conversion.antt: latchOf", "conversion/specs/Conversion.antt: sensedOf",
-    "device/specs/Pins.antt: alertOf", "device/specs/Pins.antt: tcritOf", "device/specs/Bus.antt: statusReadOf", "device/specs/Step.antt: effectOf",
-    "pair/specs/Bus.antt: busEffectOf", "capture/specs/Whole.antt: wholeOf", "capture/specs/Reader.antt: turnOf",
+    "conversion/specs/Conversion.antt: live_of", "conversion/specs/Conversion.antt: latch_of", "conversion/specs/Conversion.antt: sensed_of",
+    "device/specs/Pins.antt: alert_of", "device/specs/Pins.antt: tcrit_of", "device/specs/Bus.antt: status_read_of", "device/specs/Step.antt: effect_of",
+    "pair/specs/Bus.antt: bus_effect_of", "capture/specs/Whole.antt: whole_of", "capture/specs/Reader.antt: turn_of",
 )
-LIBRARIES = ("Prim", "lib", "mathlib", "native")
+# the language's libraries: no crate of this repository is one of these, nor has the name std
+LIBRARIES = re.compile(r"(?:Rattle\.std\.specs|Prim|lib|mathlib|native)\.")
 USE = re.compile(r"use (\S+?)\.\{([^{}]*)\}$")
 MARKS = re.compile(r"(?:abbrev |unfoldable |pub )*")
-CRATE = re.compile(r"Rattle·(\w+)(?:·specs)?\.specs\.(.+)$")
+CRATE = re.compile(r"Rattle\.(?!std\.)(\w+)\.specs\.(.+)$")
 KEYWORDS = re.compile(r"(?:abbrev |unfoldable |pub |data |record )*")
 WORD = re.compile(r"[^\s(){}\[\],;.]+")
 LAYOUT = {"infix", "infixl", "infixr", "unfolding", "where"}
-REFUSED = {"mutual", "mod", "axiom", "ruleset", "open"}
+REFUSED = {"mutual", "mod", "axiom", "ruleset"}
 
 
 class Fault(Exception):
@@ -61,9 +62,9 @@ class Specs:
             self.refuse("a name or a text in quotes", line)
         elif first == "use":
             self.read_use(line)
-        elif "Rattle·" in line or "package" in line:
+        elif re.search(r"\b(?:Rattle|package)\b", line):
             self.refuse("a name by its whole path", line)
-        elif first in REFUSED or (first == "module" and (indent > 0 or not head.startswith("module _"))):
+        elif first in REFUSED or re.search(r"\bopen\b", line) or (first == "module" and (indent > 0 or not head.startswith("module _"))):
             self.refuse("a form that this test does not read", line)
         elif first == "module" or self.open_header:
             self.header = head if first == "module" else f"{self.header}\n{head}"
@@ -80,7 +81,7 @@ class Specs:
             self.item = KEYWORDS.sub("", head, count=1).split()[0]
         elif self.item is None:
             self.refuse("a line of no definition", head)
-        if "_" in self.item:
+        if "◌" in self.item:
             self.refuse("an operator's definition", head)
         text = self.texts.get(self.item, self.header)
         constructor = re.match(r"(\S+) : ", head)
@@ -93,7 +94,7 @@ class Specs:
         use = USE.match(line)
         if not use or " as " in line:
             self.refuse("an import that this test does not read", line)
-        if not CRATE.match(use.group(1)) and use.group(1).split(".")[0] not in LIBRARIES:
+        if not CRATE.match(use.group(1)) and not LIBRARIES.match(use.group(1)):
             self.refuse("an import that is not of a crate's definitions or of a library", line)
         for word in map(str.strip, use.group(2).split(",")):
             if word in self.imports:
@@ -118,6 +119,8 @@ class Reach:
         """The text of a type of the program."""
         for path in sorted((self.crates / crate / "src").glob("*.rt")):
             found = re.search(rf"(?ms)^(?:#\[.*?\]\n)*(?:pub(?:\(crate\))? )?(?:struct|enum) {kind}\b(.*?)(?:^\}}|;$)", path.read_text())
+            if found and re.search(r"\bghost\b", found.group(1)):
+                raise Fault(f"{crate}::{kind}: a type that this test does not read")
             if found:
                 return found.group(1)
         raise Fault(f"no type {kind} in crate {crate}")
@@ -129,7 +132,7 @@ class Reach:
             return None
         name, path = crate.group(1), crate.group(2).split(".")
         if path[0] == "declared":
-            return f"{name}::{path[1]}"
+            return f"{name}::{next((part for part in path if part[0].isupper()), word)}"
         file = f"{name}/specs/{path[0]}.antt"
         owner = self.specs(file).owner.get(word)
         if owner is None:
