@@ -1,10 +1,10 @@
 -- What is laid of a part, from what the calls of the listing promise; the part of a buffer that a read filled; and what an end line comes to.
 -- Assumes nothing.
-use Rattle.std.proofs.Common.{◌≡◌, ℕ, ◌≤◌, Bool, true, false, List, length, take, drop, ℤ, pos, negsuc, sym, ap, ◌∙◌, subst, arith, ltb-true}
+use Rattle.std.proofs.Common.{◌≡◌, ℕ, ◌≤◌, Bool, true, false, List, length, min, take, drop, ℤ, pos, negsuc, sym, ap, ◌∙◌, subst, arith, ltb-true}
+use lib.IntN.{nat_abs}
 use lib.Signed.{lt_z}
 use Rattle.laws.proofs.Choices.{clash}
 use Rattle.laws.proofs.Buffers.{take_min}
-use Rattle.io.specs.Counts.{clamp_len}
 use Rattle.capture.specs.declared.Reader.{Reader}
 use Rattle.capture.specs.declared.Fed.{Fed}
 use Rattle.capture.specs.Reader.{Out, Meets, FedWith}
@@ -57,7 +57,7 @@ made_failed s (pos n) buffer text h = absurd (omega (arith, ltb-true n 0 h))
 made_failed s (negsuc n) buffer text h = no_part
 
 pub made_read : (s : Reader) (got : ℤ) (buffer : List ℕ) {p : Part} {entry exit : List ℕ} {count : ℕ} → lt_z got (pos 0) ≡ false
-    → count ≡ clamp_len got (length buffer) → PartLaid s (take count buffer) p entry exit → ReadLaid s got buffer p entry exit
+    → count ≡ min (nat_abs got) (length buffer) → PartLaid s (take count buffer) p entry exit → ReadLaid s got buffer p entry exit
 made_read s (pos n) buffer {p} {entry} {exit} h e t =
     a_part (subst (λ (part : List ℕ). PartLaid s part p entry exit) (ap (λ (k : ℕ). take k buffer) e ∙ take_min n buffer) t)
 made_read s (negsuc n) buffer h e t = clash (sym h)

@@ -1,11 +1,12 @@
 #![tactic(auto)]
-// The listing of a capture, from one file descriptor to another.
+// The listing of a capture, from a reader to a writer.
 ghost use Rattle.std.specs.Prelude.{◌≡◌, ◌≤◌, length};
 ghost use Rattle.lines_laws.specs.Turns.{read_most, text_room, end_room};
 ghost use Rattle.listing_loop.specs.List.{failed_of, told_of, Lists};
 ghost use Rattle.listing_loop.specs.Loop.{PartLaid, ReadLaid, wrote_of, Turned, ended_of, EndLaid, Ended};
 
 use capture::Reader;
+use std::io::{Read, Write};
 
 pub const WHOLE: u8 = 0;
 
@@ -15,7 +16,7 @@ pub const NOT_WRITTEN: u8 = 2;
 
 // How a listing ended. Where it is not whole, the three other numbers are 0.
 #[repr(C)]
-#[derive(Drop)]
+#[derive(Clone, Copy)]
 pub struct Listed {
     pub consumed: u64,
     pub done: u32,
@@ -24,27 +25,43 @@ pub struct Listed {
 }
 
 // What is laid of a read: the reader after it, why there is no part, whether another may follow, and how many bytes of text.
-#[derive(Drop)]
-struct Part {
-    reader: Reader,
-    failure: u8,
-    more: bool,
-    size: usize,
+#[repr(C)]
+#[derive(Clone, Copy)]
+pub struct Part {
+    pub reader: Reader,
+    pub failure: u8,
+    pub more: bool,
+    pub size: usize,
 }
 
 // The reader after a turn, why the turn failed, and whether another follows.
-#[derive(Drop)]
-struct Went {
-    reader: Reader,
-    failure: u8,
-    goes: bool,
+#[repr(C)]
+#[derive(Clone, Copy)]
+pub struct Went {
+    pub reader: Reader,
+    pub failure: u8,
+    pub goes: bool,
 }
 
 // The end line that is laid: how many bytes of text, and the finishing code.
-#[derive(Drop)]
-struct EndLine {
-    size: usize,
-    code: u8,
+#[repr(C)]
+#[derive(Clone, Copy)]
+pub struct EndLine {
+    pub size: usize,
+    pub code: u8,
+}
+
+// A turn's buffers: what is read at once, and the text of its lines.
+#[repr(C)]
+pub struct Page {
+    pub buffer: [u8; 65536],
+    pub text: [u8; 278528],
+}
+
+// Room for the end line.
+#[repr(C)]
+pub struct LastPage {
+    pub text: [u8; 17],
 }
 
 // Feeds a part and lays its lines. There is room for all of them: 65,536 bytes and three carried ones hold at most 16,384 records,
@@ -79,12 +96,12 @@ fn lay(reader: Reader, got: isize, buffer: &[u8], text: &mut [u8]) -> Part
             size: 0,
         };
     }
-    let count = io::count(got, buffer);
+    let count = (got as usize).min(buffer.len());
     lay_part(reader, &buffer[..count], text)
 }
 
 // A part whose lines could not be written is the last.
-fn wrote(part: Part, written: bool) -> Went
+pub fn wrote(part: Part, written: bool) -> Went
     ensures { result ≡ wrote_of part written }
 {
     let reader = part.reader;
@@ -103,19 +120,44 @@ fn wrote(part: Part, written: bool) -> Went
     }
 }
 
+// One read: -1, or how many bytes it put to the front of the buffer.
+fn get<R: Read>(input: &mut R, buffer: &mut [u8; 65536]) -> isize {
+    match input.read(buffer) {
+        Ok(count) => count as isize,
+        Err(_) => -1,
+    }
+}
+
+// Is all of the text written? A text of no bytes makes no call; a write that fails, or that takes no byte, is the last.
+fn put<W: Write>(output: &mut W, text: &[u8]) -> bool {
+    let mut at: usize = 0;
+    while at < text.len() {
+        match output.write(&text[at..]) {
+            Ok(count) => {
+                if count == 0 {
+                    return false;
+                }
+                at += count;
+            }
+            Err(_) => return false,
+        }
+    }
+    true
+}
+
 // Reads once, and writes the lines of what came. Of a read that failed nothing is laid, and a write of nothing makes no call.
-fn turn(input: i32, output: i32, reader: Reader) -> Went
+fn turn<R: Read, W: Write>(input: &mut R, output: &mut W, reader: Reader) -> Went
     ensures { Turned reader result }
 {
-    let mut buffer = io::large_buffer();
+    let mut buffer = [0; 65536];
     let mut text = [0; 278528];
-    let got = libc::read(input, &mut buffer);
+    let got = get(input, &mut buffer);
     let part = lay(reader, got, &buffer, &mut text);
-    let written = io::write_all(output, &text[..part.size]);
+    let written = put(output, &text[..part.size]);
     wrote(part, written)
 }
 
-fn failed(failure: u8) -> Listed
+pub fn failed(failure: u8) -> Listed
     ensures { result ≡ failed_of failure }
 {
     Listed {
@@ -138,7 +180,7 @@ fn told(reader: Reader, code: u8) -> Listed
 }
 
 // A listing whose end line could not be written is not whole.
-fn ended(reader: Reader, code: u8, written: bool) -> Listed
+pub fn ended(reader: Reader, code: u8, written: bool) -> Listed
     ensures { result ≡ ended_of reader code written }
 {
     if written {
@@ -159,17 +201,17 @@ fn lay_end(reader: Reader, text: &mut [u8]) -> EndLine
 }
 
 // Writes the end line, of at most 17 bytes.
-fn end(output: i32, reader: Reader) -> Listed
+fn end<W: Write>(output: &mut W, reader: Reader) -> Listed
     ensures { Ended reader result }
 {
     let mut text = [0; 17];
     let line = lay_end(reader, &mut text);
-    let written = io::write_all(output, &text[..line.size]);
+    let written = put(output, &text[..line.size]);
     ended(reader, line.code, written)
 }
 
 // Reads a capture to its end or to the first refused byte, and writes its listing.
-pub fn list(input: i32, output: i32) -> Listed
+pub fn list<R: Read, W: Write>(input: &mut R, output: &mut W) -> Listed
     ensures { Lists result }
 {
     let mut reader = capture::fresh();
@@ -183,4 +225,20 @@ pub fn list(input: i32, output: i32) -> Listed
             return end(output, reader);
         }
     }
+}
+
+// The same in steps, for a caller that reads and writes by itself: what a turn lays of a read, in buffers that fit; `wrote` is told what became of
+// its write.
+pub fn lay_page(reader: Reader, got: isize, page: &mut Page) -> Part
+    ensures laid { ReadLaid reader got page.old.buffer result page.old.text page.new.text }
+    ensures buffer { page.new.buffer ≡ page.old.buffer }
+{
+    lay(reader, got, &page.buffer, &mut page.text)
+}
+
+// The end line; `ended` is told what became of its write.
+pub fn lay_last(reader: Reader, page: &mut LastPage) -> EndLine
+    ensures { EndLaid reader result page.old.text page.new.text }
+{
+    lay_end(reader, &mut page.text)
 }
