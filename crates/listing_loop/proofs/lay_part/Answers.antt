@@ -1,4 +1,4 @@
-use Rattle.std.proofs.Common.{length, take, ◌≤◌, sym, length-take-le}
+use Rattle.std.proofs.Common.{sym, length-take-le, rules}
 use Rattle.capture_laws.proofs.Counts.{bytes_of}
 use Rattle.listing_loop.proofs.Making.{answers_inside, made_part}
 use Rattle.listing_loop.proofs.lay_part.Goals as goal

@@ -1,4 +1,4 @@
-use Rattle.std.proofs.Common.{◌≡◌, ◌-◌, ◌≤◌, length}
+use Rattle.std.proofs.Common.{◌-◌, ◌≤◌, length}
 use Rattle.listing_loop.proofs.put.Given as goal
 
 abbrev pub invariant-loop-at : goal.invariant-loop-at
