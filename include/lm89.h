@@ -30,7 +30,7 @@ extern "C" {
  * lm89_version() / LM89_VERSION_UNIT == LM89_VERSION_MAJOR.
  */
 #define LM89_VERSION_MAJOR 4
-#define LM89_VERSION_MINOR 5
+#define LM89_VERSION_MINOR 4
 #define LM89_VERSION_UNIT 65536u
 
 /* The parts. */

@@ -8,7 +8,7 @@ major = 4
 
 -- LM89_VERSION_MINOR: another one for every other change
 abbrev pub minor : ℕ
-minor = 5
+minor = 4
 
 abbrev pub version_of : ℕ
 version_of = major * 65536 + minor

@@ -6,7 +6,7 @@ ghost use Rattle.bench_version.specs.Version.{version_of};
 
 const MAJOR: u32 = 4;
 
-const MINOR: u32 = 5;
+const MINOR: u32 = 4;
 
 // A header of another major number was written for another library.
 #[unsafe(no_mangle)]
