@@ -20,6 +20,8 @@ LINES_MOST = 40
 # the folder of what the prover leaves beside a crate
 MADE = "out"
 USE = re.compile(r"(?:ghost )?use ")
+# traits of std that are named by their methods alone
+TRAITS = {"Read": ("read",), "Write": ("write", "write_all")}
 WORD = re.compile(r"[^\s(){}\[\],;.]+")
 NAME = re.compile(r"[\w«»·'′-]+")
 # sources, and a word of what must be told of each
@@ -39,6 +41,8 @@ BREAK = (
     ("use Rattle.a.specs.B.{word_of}\nf a = word_off a (word_ of) -- word_of\n", "unused import word_of"),
     ("use Rattle.a.specs.B.{words}\n-- words\n", "unused import words"),
     ("use Rattle.a.proofs.f.Goals as goal\nf = goals.End\n", "unused import goal"),
+    ("use std::io::{Read, Write};\nfn f(rt: HostRuntime) {\n    rt.stdout().write_all(b\"a\");\n}\n", "unused import Read"),
+    ("use std::io::Write;\nfn f(rt: HostRuntime) {\n    write_all(rt);\n}\n", "unused import Write"),
     ("use Rattle.a.specs.B.{\n  word_of}\nf = word_of\n", "cannot be read"),
 )
 KEEP = (
@@ -47,6 +51,7 @@ KEEP = (
     "pub(crate) fn f(a: u8) -> u8\n    requires { a < 3 }\n    ensures { result ≡ a }\n{\n    a\n}\n",
     "fn f() {\n" + "    g();\n" * 38 + "}\n",
     "ghost use Rattle.std.specs.Prelude.{◌≡◌, ◌&&◌, []};\nfn f(a: u8) -> u8\n    ensures { result ≡ (a && g []) }\n{\n    a\n}\n",
+    "use std::io::Write;\nfn f(rt: HostRuntime) {\n    rt.stdout().write_all(b\"a\");\n}\n",
     "use Rattle.a.proofs.f.Goals as goal\nuse Rattle.a.specs.B.{word_of, ◌∷◌}\nf = goal.End (word_of.x ∷ xs)\n",
 )
 
@@ -74,7 +79,8 @@ def unused(text):
             continue
         for name in imported(use):
             parts = [part for part in name.split("◌") if part] if "◌" in name else [name]
-            if not all(part in words or (not WORD.search(part) and part in body) for part in parts):
+            called = "std::" in use and any(f".{method}(" in body for method in TRAITS.get(name, ()))
+            if not called and not all(part in words or (not WORD.search(part) and part in body) for part in parts):
                 yield f"unused import {name}"
 
 
