@@ -143,7 +143,8 @@ def unanswered(words):
 
 
 def words_of(path):
-    return re.findall(r"`([^`\n]+)`", path.read_text())
+    """What stands in backticks, also where a line ends within it."""
+    return [" ".join(word.split()) for word in re.findall(r"`([^`]+)`", path.read_text())]
 
 
 words = words_of(MAP)
