@@ -36,6 +36,8 @@ PLACE = re.compile(r"(\w+/(?:specs|proofs)/[\w/]+\.antt): (.+)")
 FUNCTION = re.compile(r"(?:pub(?:\([^)]*\))? )?(?:extern \"C\" )?fn \w+")
 DECLARED = re.compile(r"^ *(?!let |module |use |--|→)(?:(?:abbrev|unfoldable) )?(?:pub )?(?:(?:record|data) )?([^\s:(){}]+)(?: [^:\n]*)? :", re.M)
 ERROR = re.compile(r"^(\S+?):(\d+):\d+: error(?:\[[^]]*\])?: (?:`([^`]*)`: )?(.*)$", re.M)
+# the files of a function's proof, each in a folder of its own below proofs/
+FUNCTION_PROOFS = ("Proof", "Answers", "Invariants")
 # what only says that something else was refused, and what says that a name or a field is gone: neither is evidence
 FOLLOWS = "so this cannot be checked"
 SHAPE = re.compile(r"that can be named from here|not in scope|is not defined|has no field|is not a field")
@@ -131,21 +133,30 @@ def without_functions(text):
         elif not line.startswith("ghost use "):
             kept.append(line)
     body = "\n".join(line for line in kept if not line.startswith("use "))
-    return "\n".join(line for line in kept if not line.startswith("use ") or used(line, body))
+    lines = (needed(line, body) if line.startswith("use ") else line for line in kept)
+    return "\n".join(line for line in lines if line is not None)
 
 
-def used(line, body):
-    """Whether what a `use` line brings in is still named: a type or a constant, or a module whose constants are; functions are not."""
-    name = re.split(r"::| as ", line.rstrip("; "))[-1].strip()
-    if "{" in line:
-        raise Bad(f"a `use` of several names, which this test cannot read: {line}")
+def needed(line, body):
+    """A `use` line with what is still named of what it brings in, or None; without a function no other function is named."""
+    path, brace, names = line.rstrip("; ").partition("{")
+    if not brace:
+        return line if named_in(re.split(r"::| as ", path)[-1].strip(), body) else None
+    if not names.endswith("}") or "{" in names:
+        raise Bad(f"a `use` that this test cannot read: {line}")
+    still = [name for name in names.rstrip("}").split(", ") if named_in(name.split(" as ")[-1].strip(), body)]
+    return f"{path}{{{', '.join(still)}}};" if still else None
+
+
+def named_in(name, body):
+    """Whether a type or a constant is named, or a module before a name of its own."""
     return re.search(rf"\b{name}\b" if name[0].isupper() else rf"\b{name}::", body)
 
 
 def strip(crate, laws):
     """Takes the functions, and the laws unless they are wanted, out of a crate's folder; gives whether anything to prove is left."""
-    for proof in list(crate.glob("proofs/**/Proof.antt")):
-        shutil.rmtree(proof.parent)
+    for proof in [file for name in FUNCTION_PROOFS for file in crate.glob(f"proofs/*/**/{name}.antt")]:
+        shutil.rmtree(proof.parent, ignore_errors=True)
     for part in ("must-fail", "data") if laws else ("must-fail", "data", "proofs"):
         shutil.rmtree(crate / part, ignore_errors=True)
     for part in ("stdin", "stdout", "args"):
@@ -164,19 +175,19 @@ def strip(crate, laws):
 
 def read_crates(where):
     lines = [line.split("#")[0] for line in (where / "crates.txt").read_text().splitlines()]
-    return {line.split(":")[0].strip(): line.split(":")[1].split() for line in lines if ":" in line}
+    return {line.split(":")[0].split()[0]: line.split(":")[1].split() for line in lines if ":" in line}
 
 
-def copy(source, where):
-    """crates.txt and crates/, freshly."""
+def copy(source, where, *left_out):
+    """crates.txt and crates/, freshly, without folders of the names that are left out."""
     shutil.rmtree(where / "crates", ignore_errors=True)
-    shutil.copytree(source / "crates", where / "crates")
+    shutil.copytree(source / "crates", where / "crates", ignore=shutil.ignore_patterns(*left_out))
     shutil.copy(source / "crates.txt", where / "crates.txt")
 
 
 def theorems_alone(where, laws):
     """The repository's crates, without functions, and without proofs/ unless laws are wanted; gives what each stands on."""
-    copy(ROOT, where)
+    copy(ROOT, where, "out")
     crates = read_crates(where)
     gone = [crate for crate in crates if not strip(where / "crates" / crate, laws)]
     for crate in gone:
@@ -192,9 +203,18 @@ running = set()
 
 
 def check(where, crates):
-    """rt's status and what it said; one prover at a time."""
-    rt = subprocess.Popen(["rt", "check", *crates], cwd=where, env=dict(os.environ, RT_JOBS="1", RT_CUT="0"),
-                          stdout=subprocess.PIPE, stderr=subprocess.STDOUT, text=True, start_new_session=True)
+    """What rt said of the crates, lowest first, with paths from the folder, and 0 if it proved all; one prover at a time."""
+    said, status = "", 0
+    for crate in read_crates(where):
+        if crate in crates:
+            told, code = check_crate(where / "crates" / crate)
+            said, status = said + from_root(told, f"crates/{crate}"), status or code
+    return said, status
+
+
+def check_crate(folder):
+    rt = subprocess.Popen(["rt", "check", "--jobs", "1"], cwd=folder, stdout=subprocess.PIPE, stderr=subprocess.STDOUT, text=True,
+                          start_new_session=True)
     running.add(rt)
     try:
         return rt.communicate()[0], rt.returncode
@@ -202,15 +222,16 @@ def check(where, crates):
         running.discard(rt)
 
 
-def errors(said, where):
+def from_root(said, folder):
+    """What rt said in a crate's folder, with the paths of errors from the root."""
+    return ERROR.sub(lambda line: os.path.normpath(os.path.join(folder, line[1])) + line[0].removeprefix(line[1]), said)
+
+
+def errors(said):
     """(file, theorem, text) of each error that stands on its own."""
     for file, _, theorem, text in ERROR.findall(said):
         if FOLLOWS not in text:
-            yield file.removeprefix(f"{where}/"), theorem, text
-
-
-def reaches(crate, changed, crates):
-    return any(other == crate or other in crates[crate] for other in changed)
+            yield file, theorem, text
 
 
 def try_edit(edit, base, crates):
@@ -220,22 +241,11 @@ def try_edit(edit, base, crates):
         return False, f"ILL-FORMED: no definition stands in {unknown[0]}"
     with tempfile.TemporaryDirectory(prefix="misreading-") as folder:
         where = Path(folder).resolve()
+        # with what rt keeps in each crate's out/, so that it checks what changed and what stands on that
         copy(base, where)
-        above = [crate for crate in crates if reaches(crate, edit.crates, crates)]
-        for crate in crates:
-            if crate not in above:
-                take_proved(base, where, crate)
         changed = edit.apply(where)
         said, status = check(where, edit.asked)
-        return judge(edit, changed, status, list(errors(said, where)), said)
-
-
-def take_proved(base, where, crate):
-    """The stamp and the library of a crate that no change reaches."""
-    for part, name in (("stamp", crate), ("rlib", f"{crate}.rlib")):
-        (where / "target" / part).mkdir(parents=True, exist_ok=True)
-        proved = base / "target" / part / name
-        (shutil.copytree if proved.is_dir() else shutil.copy)(proved, where / "target" / part / name)
+        return judge(edit, changed, status, list(errors(said)), said)
 
 
 def judge(edit, changed, status, found, said):
@@ -268,7 +278,7 @@ def kind(file, theorem):
 def prove(where, laws):
     where.mkdir(parents=True, exist_ok=True)
     crates = theorems_alone(where, laws)
-    said, status = check(where, [])
+    said, status = check(where, crates)
     if status:
         print(said[-4000:])
         raise Bad("the definitions and theorems alone, unchanged, are not proved, see above")

@@ -130,7 +130,7 @@ def faults(root):
     if misreadings.without_functions(SOURCE).rstrip() != STRIPPED.rstrip():
         yield "a source without its functions is not what it should be"
     for said, verdict in SAID:
-        told = misreadings.judge(edit, CHANGED, 1, list(misreadings.errors(said, root)), said)
+        told = misreadings.judge(edit, CHANGED, 1, list(misreadings.errors(said)), said)
         if not told[1].startswith(verdict) or told[0] != verdict.startswith("noticed"):
             yield f"'{said}' is told as '{told[1]}'"
     if misreadings.judge(edit, CHANGED, 0, [], "")[0]:
