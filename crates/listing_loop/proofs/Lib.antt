@@ -1,3 +1,4 @@
 pub mod Making
 pub mod Loop
 pub mod Listings
+pub mod Laying
