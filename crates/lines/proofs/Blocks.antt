@@ -1,6 +1,8 @@
 -- The lines of a call's answers, laid one behind another: what is known between two of them, `Going`, and the ways on and out.
 -- Assumes nothing.
-use Rattle.std.proofs.Common.{◌≡◌, ℕ, suc, ◌+◌, ◌-◌, ◌<◌, ◌≤◌, Bool, cond, leb, List, [], ◌∷◌, ◌++◌, length, get_or, take, drop, sym, refl, ap, ◌∙◌, append_assoc, append-nil, le_refl, arith, length-append, length-drop, take-append-drop, length-take-le, drop-cons, drop-drop, take_at, drop_at, le-leb, leb-false, leb-true}
+use Rattle.std.proofs.Common.{◌≡◌, ℕ, suc, ◌+◌, ◌-◌, ◌<◌, ◌≤◌, Bool, cond, leb, List, [], ◌∷◌, ◌++◌, length, get_or, take, drop, sym, refl, ap, ◌∙◌}
+use Rattle.std.proofs.Common.{append_assoc, append-nil, le_refl, arith, length-append, length-drop, take-append-drop, length-take-le, drop-cons, drop-drop}
+use Rattle.std.proofs.Common.{take_at, drop_at, le-leb, leb-false, leb-true}
 use native.Mathlib.Nat.{sub-zero}
 use borrow.Rule.Slice.PartMut.{put_mid, same_len_mid, mid_len}
 use borrow.Author.Tests.{lt-leb}
