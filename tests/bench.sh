@@ -6,6 +6,8 @@ set -euo pipefail
 cd "$(dirname "$0")/.."
 source scripts/machine.sh
 flags+=(-Werror)
+# The program listing, as 'rt run' leaves it.
+listing_program=crates/listing/out/listing
 
 stop() {
     printf 'bench: %s\n' "$*" >&2
@@ -54,7 +56,7 @@ sample() {
     run build/list <build/capture >build/listed || stop "build/list failed on samples/$1.hex"
     same "samples/$1.listing" build/listed "lm89_run on samples/$1.hex gives another listing than samples/$1.listing"
     run build/feed build/capture || stop "lm89_feed on parts of samples/$1.hex gives something else than lm89_run, see above"
-    run target/bin/listing <build/capture >build/listed || stop "the program failed on samples/$1.hex"
+    run "$listing_program" <build/capture >build/listed || stop "the program failed on samples/$1.hex"
     same "samples/$1.listing" build/listed "the program gives another listing of samples/$1.hex than samples/$1.listing"
     printf 'sample: %s ok\n' "$1"
 }
@@ -112,7 +114,7 @@ refused() {
 # What the program listing says where input or output fails; it has no exit status.
 program_says() {
     local said
-    said=$(run target/bin/listing 2>&1 >"$1" <"$2")
+    said=$(run "$listing_program" 2>&1 >"$1" <"$2")
     [[ $said == $3 ]] || stop "the program says '$said', expected '$3'"
     printf 'program: %s ok\n' "$3"
 }
@@ -120,7 +122,7 @@ program_says() {
 scripts/build.sh
 undefined=$("$nm" -u "$library") || stop "$nm cannot read $library: install llvm or binutils"
 ! grep ' U ' <<<"$undefined" || stop "$library needs another library for the symbols above"
-rt check listing >build/listing.log 2>&1 || {
+(cd crates/listing && rt run </dev/null) >build/listing.log 2>&1 || {
     cat build/listing.log
     stop "the program listing is not proved, see above"
 }
