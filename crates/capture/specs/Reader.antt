@@ -1,6 +1,7 @@
 -- Codes of the reader: the state and its ranges, what one byte does, what a call and asking to finish give.
 -- Assumes nothing.
-use Rattle.std.specs.Prelude.{ℕ, ◌+◌, ◌-◌, ◌*◌, ◌^◌, min, ◌≡◌, List, [], ◌∷◌, ◌++◌, Bool, true, false, cond, ◌&&◌, ◌||◌, length, get_or, set, drop, ltb, leb, eqb}
+use Rattle.std.specs.Prelude.{ℕ, ◌+◌, ◌-◌, ◌*◌, ◌^◌, min, ◌≡◌, Bool, true, false, cond, ◌&&◌, ◌||◌, ltb, leb, eqb}
+use Rattle.std.specs.Prelude.{List, [], ◌∷◌, ◌++◌, length, get_or, set, drop}
 use Rattle.registers.specs.Page.{address_of}
 use Rattle.device.specs.Bus.{powered_of}
 use Rattle.device.specs.Ranges.{all_true, variant_of}

@@ -88,7 +88,8 @@ of_that_time kind a b c =
 answers_before : (d : Device) (e : Event) → second_of e ≡ false
     → answers_of (alone d) e ≡ record { first = answer_of (effect_of d e); second = (effect_of d e).byte; bus = alone (effect_of d e).device }
 answers_before d e h =
-    ap (λ (first : ℕ). record { first = first; second = (bus_effect_of (alone d) e).byte; bus = (bus_effect_of (alone d) e).bus }) (one_answer (alone d) refl e h)
+    ap (λ (first : ℕ). record { first = first; second = (bus_effect_of (alone d) e).byte; bus = (bus_effect_of (alone d) e).bus })
+    (one_answer (alone d) refl e h)
     ∙ ap (λ (o : Done). record { first = answer_of (effect_of d e); second = o.byte; bus = o.bus }) (one_effect (alone d) refl e h)
 
 -- ---- the records

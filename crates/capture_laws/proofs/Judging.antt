@@ -155,7 +155,8 @@ pub data Lines (devices n k : ℕ) (l : List ℕ) (room : ℕ) : ℕ → Type 0 
 
 -- at a record that is judged the code is that record's
 reach : {devices n k : ℕ} {l : List ℕ} {room j : ℕ} {q : Quad} (m : Judged devices n k l room j q)
-    → judge_of devices n k room (quads l) (over l) ≡ judged_code (quad_of devices q) (cond (leb 2 (room - j * 2)) (judge_of devices n (k + j + 1) (room - j * 2 - 2) m.rest (over l)) 7)
+    → judge_of devices n k room (quads l) (over l)
+    ≡ judged_code (quad_of devices q) (cond (leb 2 (room - j * 2)) (judge_of devices n (k + j + 1) (room - j * 2 - 2) m.rest (over l)) 7)
 unfolding judge_of
 reach {devices} {n} {k} {l} {room} {j} m =
     skip j devices n k room (quads l) (over l) (omega (arith, simp length-drop at (ap length m.there))) (omega (arith, m.counted)) m.before m.space
@@ -228,7 +229,8 @@ module _ (devices n k : ℕ) (q : Quad) (xs : List ℕ) (room : ℕ) (more : k <
     shift (in_records d) = in_records (record { within = omega (arith, d.within); before = (v, d.before); space = omega (arith, d.space) })
 
   -- so its line is its own, or one after it
-  lined : {code : ℕ} (r : Record) → quad_of devices q ≡ r → Lines devices n (k + 1) xs (room - 2) code → Lines devices n k (ahead q xs) room (judged_code r (cond (leb 2 room) code 7))
+  lined : {code : ℕ} (r : Record) → quad_of devices q ≡ r → Lines devices n (k + 1) xs (room - 2) code
+      → Lines devices n k (ahead q xs) room (judged_code r (cond (leb 2 room) code 7))
   unfolding code_of
   lined (Valid e) t next =
       cond_ind (Lines devices n k (ahead q xs) room) (leb 2 room)
@@ -245,7 +247,8 @@ judged devices n k (x ∷ a ∷ []) room = few devices n k (x ∷ a ∷ []) room
 judged devices n k (x ∷ a ∷ b ∷ []) room = few devices n k (x ∷ a ∷ b ∷ []) room refl (omega arith) (omega arith)
 judged devices n k (x ∷ a ∷ b ∷ c ∷ l) room =
     cond_ind (Lines devices n k (x ∷ a ∷ b ∷ c ∷ l) room) (ltb k n)
-    (λ e. lined devices n k (record { kind = x; a = a; b = b; c = c }) l room (ltb-true k n e) (decode_of devices x a b c) refl (judged devices n (k + 1) l (room - 2)))
+    (λ e. lined devices n k (record { kind = x; a = a; b = b; c = c }) l room (ltb-true k n e) (decode_of devices x a b c) refl
+    (judged devices n (k + 1) l (room - 2)))
     (λ e. past_end (beyond devices n k (x ∷ a ∷ b ∷ c ∷ l) room e (omega arith)))
 
 -- ---- the table of the records, both ways

@@ -38,7 +38,8 @@ pub record Full (s : Reader) (xs : List ℕ) (room n : ℕ) (answers : List ℕ)
 pub data Ending (s : Reader) (xs : List ℕ) (room : ℕ) : Out → Type 0 where
   at_end : (n : ℕ) (answers : List ℕ) (t : Reader) → n ≡ length xs → Ending s xs room (taken_of n answers t)
   at_refusal : (n : ℕ) (answers : List ℕ) (t : Reader) (code : ℕ) → Reached s xs room n answers t → Lasts code
-      → turn_of t (byte_at xs n) ≡ quiet_of (hold_of t code) → Ending s xs room (record { code = code; consumed = n; answers = answers; reader = hold_of t code })
+      → turn_of t (byte_at xs n) ≡ quiet_of (hold_of t code)
+      → Ending s xs room (record { code = code; consumed = n; answers = answers; reader = hold_of t code })
   at_full : (n : ℕ) (answers : List ℕ) (t : Reader) → Full s xs room n answers t
       → Ending s xs room (record { code = 7; consumed = n; answers = answers; reader = t })
 

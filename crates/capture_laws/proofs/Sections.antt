@@ -26,7 +26,8 @@ use Rattle.pair.specs.Bus.{count_place, header_length, answers_of}
 use Rattle.pair.proofs.Kept.{same_count}
 use Rattle.pair.proofs.Heading.{counts}
 use Rattle.capture.specs.declared.Reader.{Reader}
-use Rattle.capture.specs.Reader.{fresh_of, with_head, hold_of, between_of, header_length_of, one_address, quiet_of, answered_of, judged_of, turn_of, Out, stop_of, join_of, end_of}
+use Rattle.capture.specs.Reader.{fresh_of, with_head, hold_of, between_of, header_length_of, one_address, quiet_of, answered_of, judged_of, turn_of}
+use Rattle.capture.specs.Reader.{Out, stop_of, join_of, end_of}
 use Rattle.capture.specs.Whole.{Whole, refuses_of, then_of, heading, recording, on_record, records_of}
 use Rattle.capture.specs.Whole.{number, record_count_of, first_taken, both_of, second_variant_of, none_of, variants_of, whole_of}
 use Rattle.capture.proofs.Turns.{opened_turn, other_count_turn, variant_turn, one_address_turn, other_variant_turn, counted_turn}

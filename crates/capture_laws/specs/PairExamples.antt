@@ -173,7 +173,8 @@ pair-rooms = refl
 
 abbrev at : ℕ → ℕ → ℕ → ℕ → ℕ → ℕ → Device → Reader
 at devices head count done carried held second =
-    hold_of (with_carried (with_done (heading head count (record { devices = devices; first = powered_of 1; second = second })) done) carried (0 ∷ 0 ∷ 0 ∷ [])) held
+    hold_of (with_carried (with_done (heading head count (record { devices = devices; first = powered_of 1; second = second })) done)
+    carried (0 ∷ 0 ∷ 0 ∷ [])) held
 
 pub record Ended : Type 0 where
   pub reader : Reader

@@ -25,8 +25,8 @@ use Rattle.device.specs.declared.Device.{Device}
 use Rattle.device.specs.declared.Outcome.{Outcome}
 use Rattle.device.specs.declared.Event.{Event}
 use Rattle.device.specs.declared.Event.TheVariants.{Write, Read, Send, Receive, Convert, Open, PowerOn, ConvertSecond, OpenSecond}
-use Rattle.device.specs.Bus.{silent_of, answered_of, pointed_of, masked_of, status_cleared_of, stored_of, fired_of, put_of, get_of, point_of, responds_of, respond_of}
-use Rattle.device.specs.Bus.{takes_of, converted_of, taking_of, sense_of, powered_of, alert_response, at_of}
+use Rattle.device.specs.Bus.{silent_of, answered_of, pointed_of, masked_of, status_cleared_of, stored_of, fired_of, put_of, get_of, point_of}
+use Rattle.device.specs.Bus.{responds_of, respond_of, takes_of, converted_of, taking_of, sense_of, powered_of, alert_response, at_of}
 use Rattle.device.specs.Step.{effect_of}
 use Rattle.device.proofs.AfterRead.{read_ind}
 use Rattle.device_laws.proofs.AfterConversion.{after_conversion}

@@ -11,7 +11,8 @@ use Rattle.laws.proofs.Choices.{by_test, clash}
 use Rattle.device.specs.declared.Event.{Event}
 use Rattle.device.specs.declared.Event.TheVariants.{Write, Read, Send, Receive, Convert, Open, PowerOn, ConvertSecond, OpenSecond}
 use Rattle.pair_laws.specs.Devices.{conversion_of, is_power_on}
-use Rattle.history.specs.Account.{Taken, Account, Owner, start_of, is_taken, taken_as, with_taken, convert_in, noted_of, account_from, owner_in, account_of, on_bus}
+use Rattle.history.specs.Account.{Taken, Account, Owner, start_of, is_taken, taken_as, with_taken, convert_in, noted_of, account_from}
+use Rattle.history.specs.Account.{owner_in, account_of, on_bus}
 use Rattle.history.specs.Latches.{Accepted, record_count, d3_at, listed_by, listed_next, listed_after}
 use Rattle.history.proofs.Answers.{some_record, taken_bit}
 use Rattle.history.proofs.Quiet.{noted_stays, one_more}

@@ -18,7 +18,8 @@ use Rattle.device.specs.declared.Event.{Event}
 use Rattle.device.specs.declared.Event.TheVariants.{Write, Read, Send, Receive, Convert, Open, PowerOn, ConvertSecond, OpenSecond}
 use Rattle.pair_laws.specs.Devices.{conversion_of}
 use Rattle.capture_laws.specs.Events.{events_of}
-use Rattle.history.specs.Account.{Account, Owner, start_of, store_in, ask_in, write_in, is_taken, convert_in, noted_of, account_from, owner_in, account_of, on_bus}
+use Rattle.history.specs.Account.{Account, Owner, start_of, store_in, ask_in, write_in, is_taken, convert_in, noted_of, account_from}
+use Rattle.history.specs.Account.{owner_in, account_of, on_bus}
 use Rattle.history.specs.Verdict.{verdict_of, verdict_after, may_move, reads_or_sends, Next}
 use Rattle.history.specs.Latches.{Accepted, record_count, state_after, latch_in}
 use Rattle.history.proofs.Rows.{next}
@@ -108,7 +109,8 @@ module _ (xs : List ℕ) (second : Bool) (k : ℕ) {e : Event} (n : Next xs k e)
   reads_leave h = one_more ∙ read_leaves (owner_in xs second) (1 + k) (account_of xs second k) e h
 
   -- P11: a conversion that is not taken
-  pub untaken_leaves : conversion_of second e ≡ true → is_taken (account_of xs second k).in_force ≡ false → account_of xs second (suc k) ≡ account_of xs second k
+  pub untaken_leaves : conversion_of second e ≡ true → is_taken (account_of xs second k).in_force ≡ false
+      → account_of xs second (suc k) ≡ account_of xs second k
   untaken_leaves c h = one_more ∙ untaken (owner_in xs second) (1 + k) (account_of xs second k) e c h
 
   pub latch_stays : Accepted xs → suc k ≤ record_count xs → on_bus xs second ≡ true → may_move second e ≡ false

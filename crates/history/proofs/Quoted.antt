@@ -1,6 +1,6 @@
 -- How the theorems are quoted, of document 01's listing. `quoted`: after record 6 the remote latch is set, because the conversion of record 3 read 85.125,
--- above 85, and the only one taken after it, of record 6, read 80.000, which is not below 85 less 5. `quoted_pin`: so D1 of that record's answer is set, for the
--- remote mask is 0. `quoted_clear`: after record 7 the latch is clear, for that conversion read 79.875.
+-- above 85, and the only one taken after it, of record 6, read 80.000, which is not below 85 less 5. `quoted_pin`: so D1 of that record's answer is set,
+-- for the remote mask is 0. `quoted_clear`: after record 7 the latch is clear, for that conversion read 79.875.
 -- Assumes nothing.
 use mathlib.Core.Path.{◌≡◌, refl}
 use mathlib.Core.Bool.{true, false}

@@ -10,7 +10,8 @@ use lib.ListN.{length, take, drop, length-append, length-drop}
 use lib.Seq.{take_at}
 use borrow.Author.Tests.{le-leb, ltb-true, ltb-false}
 use Rattle.laws.proofs.Choices.{by_test}
-use Rattle.lines.specs.Lines.{zeros_of, ten_digits, decimal_of, pair_of, line_of, tail_of, end_word, end_line_of, lines_of, next_of, fitting_lines_of, Laid, Lined}
+use Rattle.lines.specs.Lines.{zeros_of, ten_digits, decimal_of, pair_of, line_of, tail_of, end_word, end_line_of}
+use Rattle.lines.specs.Lines.{lines_of, next_of, fitting_lines_of, Laid, Lined}
 use Rattle.lines.proofs.Blocks.{lines_on, lines_end}
 
 -- ---- lengths

@@ -1,7 +1,7 @@
 -- How far a soak is read, and what that tells. `decided_exactly`, `program_exactly`: the test of the definition and that of the program are exact.
--- `no_further`: with fewer records read, some channel is not decided. `far_enough`: where some are left unread, those read decide both. `valid_read`: those read are valid
--- 05s and 06s. `answered`: the answer is T_CRIT_A after them; `from_any`: where some are left unread, from whatever state. `at_most_all`, `none_read`,
--- `refusal_silent`: no more are read than there are, none on 8, 10 and the length's 4, and no refusal tells a pin.
+-- `no_further`: with fewer records read, some channel is not decided. `far_enough`: where some are left unread, those read decide both. `valid_read`:
+-- those read are valid 05s and 06s. `answered`: the answer is T_CRIT_A after them; `from_any`: where some are left unread, from whatever state.
+-- `at_most_all`, `none_read`, `refusal_silent`: no more are read than there are, none on 8, 10 and the length's 4, and no refusal tells a pin.
 -- Assumes nothing.
 use Prim.Native.Nat.{ℕ, zero, suc, ◌+◌, ◌%◌, ◌≤◌, ◌<◌}
 use mathlib.Core.Path.{◌≡◌, refl, sym, ap, ◌∙◌}

@@ -50,7 +50,8 @@ module _ (d : Device) where
       (λ f. inl (λ (other : List Quad). back_met d read q (qs ++ other) e y m ∙ f other ∙ sym (back_met d read q qs e y m)))
       (λ f. inr (
         (rw m (valid_code e), f.0),
-        λ (other : List Quad). back_met d read q (qs ++ other) e y m ∙ f.1 other ∙ ap (λ (es : List Event). back_of d es other) (sym (onto_met_lem q qs read e m)),
+        λ (other : List Quad). back_met d read q (qs ++ other) e y m ∙ f.1 other
+            ∙ ap (λ (es : List Event). back_of d es other) (sym (onto_met_lem q qs read e m)),
       ))
       (halts_or_passes qs (e ∷ read)))
       (λ why m.
@@ -137,7 +138,8 @@ no_records (k ∷ a ∷ []) w h e = omega (arith, w)
 no_records (k ∷ a ∷ b ∷ []) w h e = omega (arith, w)
 no_records (k ∷ a ∷ b ∷ c ∷ xs) w h e = omega (arith, e, length-reverse (quads (k ∷ a ∷ b ∷ c ∷ xs)))
 
-pub unread : (d : Device) (before other tail : List ℕ) → Whole before → Whole other → 0 < length before → (soak_of d (before ++ tail)).read ≤ length (quads tail)
+pub unread : (d : Device) (before other tail : List ℕ) → Whole before → Whole other → 0 < length before
+    → (soak_of d (before ++ tail)).read ≤ length (quads tail)
     → soak_of d (other ++ tail) ≡ soak_of d (before ++ tail)
 unread d before other tail w v h short =
     same_soak d (other ++ tail) (before ++ tail) (same_length d other tail v ∙ sym (same_length d before tail w))
