@@ -5,8 +5,8 @@ export CAPTURE ?= samples/01-document.hex
 
 # One run of scripts/build.sh makes all products; build/built is as old as its start. Folders count as sources, since files in them may go.
 PRODUCTS := build/lib/liblm89.a build/lib/liblm89_list.a build/lib/lm89.h build/lib/lm89_list.h build/bin/lm89
-SOURCES := crates.txt include/lm89.h include/lm89_list.h command/lm89.c scripts/build.sh scripts/machine.sh \
-    $(shell find crates -name must-fail -prune -o \( -type d -o -name '*.rt' -o -name '*.antt' \) -print)
+SOURCES := crates.txt include/lm89.h include/lm89_list.h c/list.c command/lm89.c scripts/build.sh scripts/machine.sh \
+    $(shell find crates -mindepth 2 \( -name must-fail -o -name out \) -prune -o \( -type d -o -name '*.rt' -o -name '*.antt' \) -print)
 MISSING := $(filter-out $(wildcard $(PRODUCTS)),$(PRODUCTS))
 KIT := $(wildcard $(shell realpath "$$(command -v rt)" 2>/dev/null | sed 's,/[^/]*/[^/]*$$,/KIT-ID,'))
 ANOTHER_KIT := $(if $(KIT),$(shell cmp -s $(KIT) build/kit || echo yes))
@@ -45,7 +45,7 @@ uninstall: ## remove the files that install puts under PREFIX
 	@scripts/install.sh uninstall
 
 clean: ## remove all that was built or proved
-	rm -rf build target
+	rm -rf build crates/*/out
 
 help: ## list the targets
 	@awk -F ':.*## ' '/^[a-z]+:.*## / { printf "make %-12s %s\n", $$1, $$2 }' Makefile

@@ -1,16 +1,16 @@
 #!/usr/bin/env bash
-# build/lib gets liblm89.a, liblm89_list.a and their headers; build/bin gets the command lm89, elsewhere than on x86-64 with a
-# wrapper that runs it through the kit's emulator. Archives are made anew only where the kit or a crate has changed since.
-# build/built is as old as the start of the last build that succeeded, build/kit the identity of the kit that made it.
+# build/lib gets liblm89.a, liblm89_list.a and their headers; build/bin gets the command lm89. Archives are made anew only where the kit or a
+# crate has changed since. build/built is as old as the start of the last build that succeeded, build/kit the identity of the kit that made it.
 set -euo pipefail
 cd "$(dirname "$0")/.."
 source scripts/machine.sh
 
-first_build_takes='about four minutes'
-joined=(bench bench_step bench_feed bench_write bench_version soak fan tach)
+first_build_takes='about a quarter of an hour'
+joined=(bench bench_step bench_feed bench_write bench_version soak_c fan_c tach_c)
 listing=bench_list
 crates=("${joined[@]}" "$listing")
-archives=target/staticlib
+archives=build/archives
+at_once=2
 
 say() {
     printf 'build: %s\n' "$*"
@@ -25,7 +25,7 @@ stop() {
 origin_now() {
     {
         rt version && cat crates.txt &&
-            find crates -name must-fail -prune -o -type f -print0 | LC_ALL=C sort -z | xargs -0 sha256sum
+            find crates \( -name must-fail -o -name out \) -prune -o -type f -print0 | LC_ALL=C sort -z | xargs -0 sha256sum
     } | sha256sum | cut -d ' ' -f 1
 }
 
@@ -33,59 +33,53 @@ is_current() {
     [ -f "$archives/lib$1.a" ] && [ -f "$archives/$1.origin" ] && [ "$(cat "$archives/$1.origin")" = "$origin" ]
 }
 
-# Of what rt says, each crate as it is proved.
-newly_proved() {
-    sed -un -e '/unchanged/d' -e 's/^rt: \(.* proved .*\)/build:   \1/p'
-}
-
 make_archive() {
-    rm -f "$archives/$1.origin"
-    rt staticlib "$1" 2>&1 | tee build/build.log | newly_proved || {
-        cat build/build.log
-        stop "'rt staticlib $1' failed, see above"
+    rm -f "$archives/$1.origin" "crates/$1/out/lib$1.a"
+    (cd "crates/$1" && rt lib) >"$archives/$1.log" 2>&1 || {
+        cat "$archives/$1.log"
+        stop "'rt lib' failed in crates/$1, see above"
     }
+    mv "crates/$1/out/lib$1.a" "$archives/"
     printf '%s\n' "$origin" >"$archives/$1.origin"
+    say "  $1 is proved and compiled"
 }
 
+# The first makes the libraries that the others stand on too.
 make_archives() {
-    local at=0 told=
+    local stale=() crate
     for crate in "${crates[@]}"; do
-        at=$((at + 1))
-        ! is_current "$crate" || continue
-        [ -n "$told" ] || say "proves what has changed, and compiles it; from nothing this takes $first_build_takes"
-        told=yes
-        say "crate $at of ${#crates[@]}: $crate, and what it stands on"
-        make_archive "$crate"
+        is_current "$crate" || stale+=("$crate")
     done
+    [ ${#stale[@]} -gt 0 ] || return 0
+    say "proves what has changed, and compiles it; from nothing this takes $first_build_takes"
+    make_archive "${stale[0]}"
+    export -f make_archive say stop
+    export archives origin
+    printf '%s\n' "${stale[@]:1}" | xargs -r -P "$at_once" -I '{}' bash -euo pipefail -c 'make_archive "{}"' || stop "archives are missing, see above"
+}
+
+# ARCHIVE PARTS..., archives or objects.
+join() {
+    rm -f build/joined.a
+    "$toolchain/bin/llvm-ar" qcL build/joined.a "${@:2}" || stop "the archives cannot be joined, see above"
+    mv build/joined.a "$1"
 }
 
 make_libraries() {
     local parts=("${joined[@]/#/$archives/lib}")
-    rm -f build/joined.a
-    "$toolchain/bin/llvm-ar" qcL build/joined.a "${parts[@]/%/.a}" || stop "the archives cannot be joined, see above"
-    mv build/joined.a "$library"
-    cp "$archives/lib$listing.a" "$listing_library"
+    cc "${flags[@]}" -fPIC -c -o "$archives/list.o" c/list.c || stop "c/list.c does not compile, see above"
+    join "$library" "${parts[@]/%/.a}"
+    join "$listing_library" "$archives/lib$listing.a" "$archives/list.o"
     cp include/lm89.h include/lm89_list.h build/lib/
 }
 
 make_command() {
     compile_link build/lm89 command/lm89.c "$listing_library" || stop "command/lm89.c does not compile or link, see above"
     rm -f build/bin/*
-    if [ "$machine" = x86_64 ]; then
-        mv build/lm89 build/bin/lm89
-        return
-    fi
-    mv build/lm89 build/bin/lm89.x86_64
-    {
-        printf '#!/bin/sh\nexec'
-        printf " '%s'" "${emulator[@]}"
-        # shellcheck disable=SC2016
-        printf ' "$(dirname "$(realpath "$0")")/lm89.x86_64" "$@"\n'
-    } >build/bin/lm89
-    chmod +x build/bin/lm89
+    mv build/lm89 build/bin/lm89
 }
 
-mkdir -p build/lib build/bin
+mkdir -p build/lib build/bin "$archives"
 touch build/started
 origin=$(origin_now) || stop "the kit's version or the crates cannot be read, see above"
 make_archives

@@ -6,8 +6,8 @@ set -euo pipefail
 cd "$(dirname "$0")/.."
 source scripts/machine.sh
 once_a_call='bench_feed.o capture::ranges::in_range'
-symbols=$("$nm" -A -S "$library") || {
-    printf 'inlined: %s cannot read %s: install llvm or binutils\n' "$nm" "$library" >&2
+symbols=$(nm -A -S "$library") || {
+    printf 'inlined: nm cannot read %s: install binutils\n' "$library" >&2
     exit 1
 }
 # Member, address, size, sort, name.

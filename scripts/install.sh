@@ -24,7 +24,6 @@ files=(
     '755 build/bin/lm89 bin/lm89'
     '644 command/lm89.1 share/man/man1/lm89.1'
 )
-[ "$(uname -m)" = x86_64 ] || files+=('755 build/bin/lm89.x86_64 bin/lm89.x86_64')
 
 # The header's number of this name.
 version_part() {

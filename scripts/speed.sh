@@ -1,18 +1,13 @@
 #!/usr/bin/env bash
 # lm89_run against the second program, both by the kit's clang at -O3, in one process; a soak read from its end beside lm89_run; lm89_tach against the
-# second program; then the listing on two captures. Where programs run through the emulator nothing is measured.
+# second program; then the listing on two captures.
 set -euo pipefail
 cd "$(dirname "$0")/.."
 source scripts/machine.sh
 scripts/build.sh
 scripts/inlined.sh
-[ "$machine" = x86_64 ] || {
-    printf 'emulated: no measurement\n'
-    exit 0
-}
 for source in speed/speed.c speed/soak.c speed/tach.c second/second.c second/tach.c; do
-    "$toolchain/bin/clang" -std=c11 -O3 -Iinclude -Isecond -isystem "$(cc -print-file-name=include)" -isystem /usr/include \
-        -isystem "/usr/include/$machine-linux-gnu" -fPIE -c "$source" -o "build/${source//\//-}.o"
+    "${kit_clang[@]}" -std=c11 -O3 -Iinclude -Isecond -fPIE -c "$source" -o "build/${source//\//-}.o"
 done
 cc -o build/speed build/speed-speed.c.o build/second-second.c.o "$library"
 cc -o build/speed-soak build/speed-soak.c.o "$library"

@@ -20,7 +20,7 @@ program() {
 
 passes() {
     program "$1" "$2"
-    run "build/$1" || stop "$2 failed, see above"
+    "build/$1" || stop "$2 failed, see above"
     printf 'c: %s ok\n' "$1"
 }
 
@@ -33,13 +33,13 @@ other_version() {
         flags=("-I$other" "${flags[@]}")
         program other-version/example examples/bench.c
     )
-    ! run "$other/example" >"$other/said" 2>&1 || stop "examples/bench.c accepts a header of another major version than the library's"
+    ! "$other/example" >"$other/said" 2>&1 || stop "examples/bench.c accepts a header of another major version than the library's"
     grep -q 'lm89.h is of version 65535' "$other/said" || stop "examples/bench.c says '$(<"$other/said")' of a header of another version"
     printf 'c: another version is noticed\n'
 }
 
 is_cpp() {
-    "${across[@]}" -x c++ -std=c++11 -fsyntax-only -Wall -Wextra -Werror -pedantic -Iinclude -include lm89_list.h "$1" ||
+    "${kit_clang[@]}" -x c++ -std=c++11 -fsyntax-only -Wall -Wextra -Werror -pedantic -Iinclude -include lm89_list.h "$1" ||
         stop "$1 or a header is not C++, see above"
 }
 
@@ -53,10 +53,10 @@ same() {
 # By the library from C, whole and in parts, and by the program; tests/command.sh lists the samples by the command.
 sample() {
     python3 tests/hex.py "samples/$1.hex" >build/capture || stop "samples/$1.hex is not hex text, see above"
-    run build/list <build/capture >build/listed || stop "build/list failed on samples/$1.hex"
+    build/list <build/capture >build/listed || stop "build/list failed on samples/$1.hex"
     same "samples/$1.listing" build/listed "lm89_run on samples/$1.hex gives another listing than samples/$1.listing"
-    run build/feed build/capture || stop "lm89_feed on parts of samples/$1.hex gives something else than lm89_run, see above"
-    run "$listing_program" <build/capture >build/listed || stop "the program failed on samples/$1.hex"
+    build/feed build/capture || stop "lm89_feed on parts of samples/$1.hex gives something else than lm89_run, see above"
+    "$listing_program" <build/capture >build/listed || stop "the program failed on samples/$1.hex"
     same "samples/$1.listing" build/listed "the program gives another listing of samples/$1.hex than samples/$1.listing"
     printf 'sample: %s ok\n' "$1"
 }
@@ -73,7 +73,7 @@ streamed() {
         $1 != "end" { first = index("0123456789ABCDEF", substr($2, 2)) - 1; alert += first % 2; tcrit += int(first / 2) % 2; held += substr($2, 1, 1) }
         $1 == "end" { printf "%d records, ALERT pulled after %d, T_CRIT_A after %d, readings held at %d, code %d\n", $2, alert, tcrit, held, $3 }
     ' "build/large-$1.listing" >build/counted
-    run build/stream <"build/large-$1" >build/listed || stop "examples/stream.c failed on the large capture of $1 device(s)"
+    build/stream <"build/large-$1" >build/listed || stop "examples/stream.c failed on the large capture of $1 device(s)"
     same build/counted build/listed "examples/stream.c counts otherwise than the listing"
     printf 'c: stream, %s device(s) ok\n' "$1"
 }
@@ -82,10 +82,10 @@ streamed() {
 large() {
     local size
     python3 tests/large.py "$1" >"build/large-$1"
-    run build/list <"build/large-$1" >"build/large-$1.listing"
+    build/list <"build/large-$1" >"build/large-$1.listing"
     [ "$(tail -n 1 "build/large-$1.listing")" = "end 20000 0" ] ||
         stop "the large capture of $1 device(s) ends with '$(tail -n 1 "build/large-$1.listing")'"
-    run build/feed "build/large-$1" || stop "lm89_feed on parts of the large capture of $1 device(s) gives something else than lm89_run, see above"
+    build/feed "build/large-$1" || stop "lm89_feed on parts of the large capture of $1 device(s) gives something else than lm89_run, see above"
     streamed "$1"
     for size in 1 3 4 7 65536; do
         blocks "$size" "$1"
@@ -96,7 +96,7 @@ large() {
 prints() {
     cat >build/counted
     program "$1" "examples/$1.c"
-    run "build/$1" >"build/printed-$1" || stop "examples/$1.c failed, see above"
+    "build/$1" >"build/printed-$1" || stop "examples/$1.c failed, see above"
     same build/counted "build/printed-$1" "examples/$1.c prints something else"
     printf 'example: %s ok\n' "$1"
 }
@@ -106,7 +106,7 @@ refused() {
     local said
     sed "$2" "examples/$1.c" >"build/refused-$1.c"
     program "refused-$1" "build/refused-$1.c"
-    ! said=$(run "build/refused-$1" 2>&1 >build/listed) || stop "examples/$1.c is not refused after $2"
+    ! said=$("build/refused-$1" 2>&1 >build/listed) || stop "examples/$1.c is not refused after $2"
     [ "$said" = "$3" ] || stop "examples/$1.c says '$said' after $2, expected '$3'"
     printf 'example: %s refused ok\n' "$1"
 }
@@ -114,18 +114,19 @@ refused() {
 # What the program listing says where input or output fails; it has no exit status.
 program_says() {
     local said
-    said=$(run "$listing_program" 2>&1 >"$1" <"$2")
+    said=$("$listing_program" 2>&1 >"$1" <"$2")
     [[ $said == $3 ]] || stop "the program says '$said', expected '$3'"
     printf 'program: %s ok\n' "$3"
 }
 
 scripts/build.sh
-undefined=$("$nm" -u "$library") || stop "$nm cannot read $library: install llvm or binutils"
+undefined=$(nm -u "$library") || stop "nm cannot read $library: install binutils"
 ! grep ' U ' <<<"$undefined" || stop "$library needs another library for the symbols above"
-(cd crates/listing && rt run </dev/null) >build/listing.log 2>&1 || {
+(cd crates/listing && rt run <stdin) >build/listed 2>build/listing.log || {
     cat build/listing.log
-    stop "the program listing is not proved, see above"
+    stop "the program listing is not proved, or failed, see above"
 }
+same crates/listing/stdout build/listed "the program gives another listing than crates/listing/stdout"
 scripts/inlined.sh || stop "the library is not inlined as it must be, see above"
 passes example examples/bench.c
 other_version

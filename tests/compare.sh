@@ -29,15 +29,6 @@ stop() {
     exit 1
 }
 
-# A command for a program for x86-64, as one word.
-command_of() {
-    if [ "$machine" = x86_64 ]; then
-        printf '%q' "$1"
-    else
-        printf '%q ' "${emulator[@]}" "$1"
-    fi
-}
-
 make_streams() {
     cc "${strict[@]}" -o "$here/streams" tests/compare/streams.c
     for theme in "${themes[@]}"; do
@@ -85,7 +76,7 @@ if [ $# -gt 0 ]; then
     other=$1
 else
     compile_link "$here/library" tests/compare/library.c || stop "tests/compare/library.c does not compile or link, see above"
-    other=$(command_of "$here/library")
+    other=$here/library
 fi
 printf 'second/ and %s:\n' "$other"
 python3 tests/compare/compare.py "$here/second" "$other" "${streams[@]}" ||
