@@ -14,12 +14,13 @@ stop() {
     exit 1
 }
 
+# NAME SOURCE, and an archive where it is not the library.
 program() {
-    compile_link "build/$1" "$2" || stop "$2 does not compile or link, see above"
+    compile_link "build/$1" "$2" "${3:-}" || stop "$2 does not compile or link, see above"
 }
 
 passes() {
-    program "$1" "$2"
+    program "$@"
     "build/$1" || stop "$2 failed, see above"
     printf 'c: %s ok\n' "$1"
 }
@@ -147,6 +148,7 @@ passes both tests/c/both.c
 passes soak tests/c/soak.c
 passes fan tests/c/fan.c
 passes tach tests/c/tach.c
+passes calls tests/c/calls.c "$listing_library"
 program list tests/c/list.c
 program stream examples/stream.c
 # Pairs of reads with a conversion between: 31 E0 is 399 eighths, 32 00 is 400.
