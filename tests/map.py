@@ -16,7 +16,7 @@ PROFILE = Path("docs/PROFILE.md")
 CRATES = Path("crates")
 PROOF_PLACE = re.compile(r"(\w+/(?:specs|proofs)/[\w/]+\.antt)(?:: (.+))?")
 EDIT = re.compile(r"\w+/must-fail/\w+")
-OTHER = re.compile(r"(?:crates|tests|samples|docs|scripts|second|include|examples|misreadings)/[\w./-]+")
+OTHER = re.compile(r"(?:crates|c|tests|samples|docs|scripts|second|include|examples|misreadings)/[\w./-]+")
 EQUATION = re.compile(r"result ≡ ")
 # What an equation's left side may name that comes of the call: the result, or what a lent place holds then, or a field of these.
 MADE = re.compile(r"(?<![\w'.-])(result|\w+\.new)((?:\.\w+)*) ≡ ")
