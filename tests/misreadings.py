@@ -145,7 +145,7 @@ def needed(line, body):
     if not names.endswith("}") or "{" in names:
         raise Bad(f"a `use` that this test cannot read: {line}")
     still = [name for name in names.rstrip("}").split(", ") if named_in(name.split(" as ")[-1].strip(), body)]
-    return f"{path}{{{', '.join(still)}}};" if still else None
+    return f"{path}{still[0] if len(still) == 1 else '{' + ', '.join(still) + '}'};" if still else None
 
 
 def named_in(name, body):
