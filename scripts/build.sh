@@ -6,7 +6,7 @@ cd "$(dirname "$0")/.."
 source scripts/machine.sh
 
 first_build_takes='about a quarter of an hour'
-joined=(bench bench_step bench_feed bench_write bench_version soak_c fan_c tach_c)
+joined=(bench_c bench_step_c bench_feed_c bench_write_c bench_version_c soak_c fan_c tach_c)
 listing=bench_list
 crates=("${joined[@]}" "$listing")
 archives=build/archives

@@ -5,7 +5,7 @@
 set -euo pipefail
 cd "$(dirname "$0")/.."
 source scripts/machine.sh
-once_a_call='bench_feed.o capture::ranges::in_range'
+once_a_call='bench_feed_c.o capture::ranges::in_range'
 symbols=$(nm -A -S "$library") || {
     printf 'inlined: nm cannot read %s: install binutils\n' "$library" >&2
     exit 1
