@@ -41,6 +41,12 @@ typedef struct {
     uint8_t text[17];
 } last_page;
 
+_Static_assert(sizeof(part) == 88 && offsetof(part, failure) == 76 && offsetof(part, more) == 77 && offsetof(part, size) == 80, "layout of part");
+_Static_assert(sizeof(went) == 80 && offsetof(went, failure) == 76 && offsetof(went, goes) == 77, "layout of went");
+_Static_assert(sizeof(end_line) == 16 && offsetof(end_line, code) == 8, "layout of end_line");
+_Static_assert(sizeof(page) == 344064 && offsetof(page, text) == 65536, "layout of page");
+_Static_assert(sizeof(last_page) == 17, "layout of last_page");
+
 lm89_reader lm89_list_fresh(void);
 part lm89_list_lay(lm89_reader reader, ptrdiff_t got, page *page);
 went lm89_list_wrote(part part, bool written);

@@ -1,4 +1,4 @@
--- Listing in full, from one file descriptor to another: what the call tells, and of which turns. That `parts` are the bytes that the call
+-- Listing in full, from a reader to a writer: what the call tells, and of which turns. That `parts` are the bytes that the call
 -- was handed, and `output` those that it handed on, is in no promise.
 -- Assumes nothing.
 use Rattle.std.specs.Prelude.{◌≡◌, ℕ, List}
