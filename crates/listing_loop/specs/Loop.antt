@@ -2,6 +2,8 @@
 -- come to. No sentence of document 01 stands here; the call promises no more than `Lists`.
 -- Assumes nothing.
 use Rattle.std.specs.Prelude.{◌≡◌, ℕ, ◌≤◌, Bool, false, cond, ◌&&◌, List, length, take, ℤ, pos, negsuc, ◌==◌, nat_lt}
+use Rattle.std.specs.Io.KnownBytes.{Keeps, Consumes, IsAtEnd}
+use Rattle.std.specs.declared.option.Option.{Option}
 use Rattle.capture.specs.declared.Reader.{Reader}
 use Rattle.capture.specs.declared.Fed.{Fed}
 use Rattle.capture.specs.Reader.{finish_of}
@@ -43,6 +45,12 @@ pub data ReadLaid : Reader → ℤ → List ℕ → Part → List ℕ → List �
       → ReadLaid s (pos n) buffer p entry exit
 
 -- ---- a turn
+
+-- what a read did to the bytes that its reader has left, where those are known: it took those that it put to the front of the buffer, none only
+-- at their end; one that failed took none
+abbrev pub GotBytes : Option (List ℕ) → Option (List ℕ) → ℤ → List ℕ → Type 0
+GotBytes left after (pos n) buffer = (n ≤ length buffer) × Consumes left after (take n buffer) × (n ≡ 0 → IsAtEnd after)
+GotBytes left after (negsuc n) buffer = Keeps left after
 
 -- the state after a part; whether another turn follows, by whether its lines were written
 abbrev pub wrote_of : Part → Bool → Went

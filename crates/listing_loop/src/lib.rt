@@ -1,9 +1,10 @@
 #![tactic(auto)]
 // The listing of a capture, from a reader to a writer.
-ghost use Rattle.std.specs.Prelude.{◌≡◌, ◌≤◌, length};
+ghost use Rattle.std.specs.Prelude.{◌≡◌, ◌≤◌, length, IsTrue};
+ghost use Rattle.std.specs.Io.KnownBytes.{Appends};
 ghost use Rattle.lines_laws.specs.Turns.{read_most, text_room, end_room};
 ghost use Rattle.listing_loop.specs.List.{failed_of, told_of, Lists};
-ghost use Rattle.listing_loop.specs.Loop.{PartLaid, ReadLaid, wrote_of, Turned, ended_of, EndLaid, Ended};
+ghost use Rattle.listing_loop.specs.Loop.{PartLaid, ReadLaid, GotBytes, wrote_of, Turned, ended_of, EndLaid, Ended};
 
 use capture::Reader;
 use std::io::{Read, Write};
@@ -121,7 +122,9 @@ pub fn wrote(part: Part, written: bool) -> Went
 }
 
 // One read: -1, or how many bytes it put to the front of the buffer.
-fn get<R: Read>(input: &mut R, buffer: &mut [u8; 65536]) -> isize {
+fn get<R: Read>(input: &mut R, buffer: &mut [u8; 65536]) -> isize
+    ensures { GotBytes (R.remaining input.old) (R.remaining input.new) result buffer.new }
+{
     match input.read(buffer) {
         Ok(count) => count as isize,
         Err(_) => -1,
@@ -129,7 +132,9 @@ fn get<R: Read>(input: &mut R, buffer: &mut [u8; 65536]) -> isize {
 }
 
 // Is all of the text written? A text of no bytes makes no call; a write that fails, or that takes no byte, is the last.
-fn put<W: Write>(output: &mut W, text: &[u8]) -> bool {
+fn put<W: Write>(output: &mut W, text: &[u8]) -> bool
+    ensures { IsTrue result → Appends (W.contents output.old) (W.contents output.new) text.now }
+{
     let mut at: usize = 0;
     while at < text.len() {
         match output.write(&text[at..]) {
