@@ -9,7 +9,7 @@ from collections import defaultdict
 
 WORD = r"[A-Za-z][A-Za-z0-9_'′₀-₉-]*"
 TOKEN = re.compile(rf"(?<![A-Za-z0-9_'′₀-₉◌-]){WORD}")
-DECLARED = re.compile(rf"^\s*(?:abbrev |unfoldable |axiom )*(?:pub )?(?:abbrev |unfoldable )*({WORD}) : ")
+DECLARED = re.compile(rf"^\s*(?:abbrev |unfoldable |axiom )*(?:pub )?(?:abbrev |unfoldable )*({WORD}) :(?: |$)")
 TYPE = re.compile(rf"^\s*(?:abbrev )?(?:pub )?(?:record|data)\s+({WORD})")
 IMPORT = re.compile(r"use ([\w.]+)\.\{(.*?)\}", re.S)
 # the papers' own letters and part numbers, and names whose new spelling would be a word of the language's

@@ -109,11 +109,11 @@ one_before = refl
 abbrev two_devices : List ℕ
 two_devices = 0x02 ∷ 0x01 ∷ 0x02 ∷ 0x00 ∷ 0x00 ∷ 0x00 ∷ 0x00 ∷ []
 
-pub two-today :
+pub two_today :
     today two_devices
     ≡ record { code = 0; consumed = 7; answers = []; finishing = 0; head = 7; count = 0; done = 0; carried = 0; bytes = 0 ∷ 0 ∷ 0 ∷ []; held = 0 }
 unfolding capture_opened
-two-today = refl
+two_today = refl
 
 pub two_before : then two_devices ≡ refused_count
 unfolding before.whole_of

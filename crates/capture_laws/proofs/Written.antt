@@ -86,9 +86,9 @@ all_records n k d [] e a =
 all_records n k d (e ∷ es) s a =
     let rest = subst (λ (devices : ℕ). Allowed devices es) (sym (same_count d e)) a.2 in
     let r = all_records n (k + 1) (answers_of d e).bus es (omega arith) rest in
-    let four-long : length (encode_of e) ≡ 4 = rw (four_of e).bytes in
+    let four_long : length (encode_of e) ≡ 4 = rw (four_of e).bytes in
     rw (one_record n k d e (records_bytes es) a.0 a.1 (omega arith))
-    (record { code = r.code; finishing = r.finishing; consumed = rw r.consumed (simp (length-append, four-long)) })
+    (record { code = r.code; finishing = r.finishing; consumed = rw r.consumed (simp (length-append, four_long)) })
 
 -- their events
 events_read : (devices : ℕ) (es : List Event) → Allowed devices es → events_in devices (take (length es) (quads (records_bytes es))) ≡ es

@@ -162,12 +162,12 @@ unfolding capture_opened
 held_nine = refl
 
 -- 08 with room for one byte; 3 and 4 before 7
-pub pair-rooms :
+pub pair_rooms :
     fed (2 ∷ 1 ∷ 2 ∷ 0 ∷ 0 ∷ 0 ∷ 1 ∷ 8 ∷ 0 ∷ 0 ∷ 0 ∷ []) 1 ∷ fed (2 ∷ 1 ∷ 2 ∷ 0 ∷ 0 ∷ 0 ∷ 1 ∷ 8 ∷ 0 ∷ 0 ∷ 0 ∷ []) 2 ∷
     fed (2 ∷ 1 ∷ 2 ∷ 0 ∷ 0 ∷ 0 ∷ 1 ∷ 8 ∷ 0 ∷ 0 ∷ 1 ∷ []) 0 ∷ fed (1 ∷ 1 ∷ 0 ∷ 0 ∷ 0 ∷ 1 ∷ 9 ∷ 0 ∷ 0 ∷ 1 ∷ []) 0 ∷ []
     ≡ (7 ∷ 10 ∷ []) ∷ (0 ∷ 11 ∷ 8 ∷ 0 ∷ []) ∷ (4 ∷ 10 ∷ []) ∷ (3 ∷ 9 ∷ []) ∷ []
 unfolding capture_opened
-pair-rooms = refl
+pair_rooms = refl
 
 -- ---- ranges
 

@@ -80,11 +80,11 @@ remote_out_of s remote = out_of remote (remote_limits_of s)
 
 -- P4: the count at this conversion, its own step included
 abbrev pub faults_of : List ℕ → ℕ → ℤ → ℕ
-faults_of s oldCount remote = count_of oldCount (any_of (remote_out_of s remote))
+faults_of s old_count remote = count_of old_count (any_of (remote_out_of s remote))
 
 -- the remote bits that become live at this conversion
 abbrev pub remote_shown_of : List ℕ → ℕ → ℤ → Out
-remote_shown_of s oldCount remote = shown_of (queued_of (setting_of s 0x03) (faults_of s oldCount remote)) (remote_out_of s remote)
+remote_shown_of s old_count remote = shown_of (queued_of (setting_of s 0x03) (faults_of s old_count remote)) (remote_out_of s remote)
 
 unfoldable pub sensed_of : List ℕ → Sensed → ℕ → ℤ → Bool → Sensed
 sensed_of s old local remote diode_open =

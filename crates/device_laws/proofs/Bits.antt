@@ -18,17 +18,17 @@ and_or_step n ih x m =
     let o = or_step n x in
     let a = and_step n m in
     let b = and_step x m in
-    let o-half : bit_or n x / 2 ≡ bit_or (n / 2) (x / 2) = omega arith in
-    let o-odd : bit_or n x % 2 ≡ max (n % 2) (x % 2) = omega arith in
+    let o_half : bit_or n x / 2 ≡ bit_or (n / 2) (x / 2) = omega arith in
+    let o_odd : bit_or n x % 2 ≡ max (n % 2) (x % 2) = omega arith in
     let a_half : bit_and n m / 2 ≡ bit_and (n / 2) (m / 2) = omega arith in
-    let a-odd : bit_and n m % 2 ≡ min (n % 2) (m % 2) = omega arith in
-    let b-half : bit_and x m / 2 ≡ bit_and (x / 2) (m / 2) = omega arith in
-    let b-odd : bit_and x m % 2 ≡ min (x % 2) (m % 2) = omega arith in
+    let a_odd : bit_and n m % 2 ≡ min (n % 2) (m % 2) = omega arith in
+    let b_half : bit_and x m / 2 ≡ bit_and (x / 2) (m / 2) = omega arith in
+    let b_odd : bit_and x m % 2 ≡ min (x % 2) (m % 2) = omega arith in
     let left : bit_and (bit_or n x) m ≡ bit_and (bit_or (n / 2) (x / 2)) (m / 2) * 2 + min (max (n % 2) (x % 2)) (m % 2) =
-    and_step (bit_or n x) m ∙ rw (o-half, o-odd) in
+    and_step (bit_or n x) m ∙ rw (o_half, o_odd) in
     let right : bit_or (bit_and n m) (bit_and x m)
     ≡ bit_or (bit_and (n / 2) (m / 2)) (bit_and (x / 2) (m / 2)) * 2 + max (min (n % 2) (m % 2)) (min (x % 2) (m % 2)) =
-    or_step (bit_and n m) (bit_and x m) ∙ rw (a_half, a-odd, b-half, b-odd) in
+    or_step (bit_and n m) (bit_and x m) ∙ rw (a_half, a_odd, b_half, b_odd) in
     let digit : min (max (n % 2) (x % 2)) (m % 2) ≡ max (min (n % 2) (m % 2)) (min (x % 2) (m % 2)) = omega arith in
     left ∙ rw (ih (x / 2) (m / 2), digit) (sym right)
 

@@ -179,10 +179,10 @@ one_reading : (d : Device) (first : Event) (n : Device) (last : Event) → Sound
     → OneReading d.sensed.remote (step_of d first) (step_of n last)
 one_reading d first n last s t begins same ends =
     let reading = d.sensed.remote in
-    let low-kept : kept_low n ≡ (low_byte_of reading, true) = same ∙ read_keeps d s first begins in
+    let low_kept : kept_low n ≡ (low_byte_of reading, true) = same ∙ read_keeps d s first begins in
     let high_read : (step_of d first).second ≡ high_byte_of reading = read_second d s first 0x01 refl begins in
     let low_read : (step_of n last).second ≡ low_byte_of reading =
-    read_second n t last 0x10 refl ends ∙ ap (λ (k : ℕ × Bool). cond k.1 k.0 (low_byte_of n.sensed.remote)) low-kept in
+    read_second n t last 0x10 refl ends ∙ ap (λ (k : ℕ × Bool). cond k.1 k.0 (low_byte_of n.sensed.remote)) low_kept in
     record {
       first_code = read_code d s first 0x01 begins;
       last_code = read_code n t last 0x10 ends;

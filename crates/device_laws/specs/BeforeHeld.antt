@@ -26,7 +26,7 @@ unfoldable pub held_of : ℤ → ℤ
 held_of sum = cond (lt_z (pos 1023) sum) (pos 1023) (cond (lt_z sum (neg_ℤ (pos 1024))) (neg_ℤ (pos 1024)) sum)
 
 abbrev pub held_sum_of : ℕ → ℕ → ℕ → ℕ → ℤ
-held_sum_of high low offsetHigh offsetLow = held_of (sum_of high low offsetHigh offsetLow)
+held_sum_of high low offset_high offset_low = held_of (sum_of high low offset_high offset_low)
 
 -- an open diode gives 127 degrees with no offset
 abbrev pub open_reading : ℤ

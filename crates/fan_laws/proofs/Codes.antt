@@ -110,8 +110,8 @@ module _ (f : Fan) (earlier : ℕ) where
   none_out : InRange f earlier → any_out ≡ false
   unfolding out_of
   none_out r =
-      let table-in : out_of table ≡ false = not_found (out_at table) 8 (λ k p l. rw (le-ltb 127 _ (r.temperatures k p l), le-ltb 63 _ (r.values k p l))) in
-      rw (table-in, le-ltb 31 f.hysteresis r.hysteresis, le-ltb 31 f.frequency r.frequency, le-ltb 8 earlier r.earlier_step)
+      let table_in : out_of table ≡ false = not_found (out_at table) 8 (λ k p l. rw (le-ltb 127 _ (r.temperatures k p l), le-ltb 63 _ (r.values k p l))) in
+      rw (table_in, le-ltb 31 f.hysteresis r.hysteresis, le-ltb 31 f.frequency r.frequency, le-ltb 8 earlier r.earlier_step)
 
   by_code : Gives f earlier (given f earlier)
   unfolding code_of

@@ -100,7 +100,7 @@ module _ (lent blank : List ℕ) (room : answer_room ≤ length lent) (wide : te
       })
 
   pub turns_end : (page : List ℕ) → end_room ≤ length page → (parts : List (List ℕ)) → Read parts → Bytes (joined parts) → Ends parts
-  turns_end page wide-end parts h k =
+  turns_end page wide_end parts h k =
       let e = turns_from fresh_of parts h k fresh_ranges in
       let line : List ℕ = fitting_of (end_line_of e.last.done (finish_of e.last)) (length page) in
       record {
@@ -120,7 +120,7 @@ module _ (lent blank : List ℕ) (room : answer_room ≤ length lent) (wide : te
                     blank = page;
                     page = line ++ drop (length line) page;
                     size = length line;
-                    wide = wide-end;
+                    wide = wide_end;
                     lined = record { told = refl; buffer = refl };
                     written = refl;
                   };

@@ -4,11 +4,11 @@ use Rattle.std.specs.Prelude.{◌≡◌, refl, [], ◌∷◌, ◌++◌, map}
 use Rattle.lines.specs.Lines.{hex_of, digit_of, zeros_of, decimal_of, line_of, end_line_of, fitting_of, fitting_lines_of}
 
 -- 0 to 9, A to F; of a larger number the last digit
-pub hex-digits :
+pub hex_digits :
     map hex_of (0 ∷ 1 ∷ 2 ∷ 3 ∷ 4 ∷ 5 ∷ 6 ∷ 7 ∷ 8 ∷ 9 ∷ 10 ∷ 11 ∷ 12 ∷ 13 ∷ 14 ∷ 15 ∷ 16 ∷ 17 ∷ [])
     ≡ 48 ∷ 49 ∷ 50 ∷ 51 ∷ 52 ∷ 53 ∷ 54 ∷ 55 ∷ 56 ∷ 57 ∷ 65 ∷ 66 ∷ 67 ∷ 68 ∷ 69 ∷ 70 ∷ 48 ∷ 49 ∷ []
 unfolding hex_of
-hex-digits = refl
+hex_digits = refl
 
 pub digits :
     map digit_of (0 ∷ 1 ∷ 2 ∷ 3 ∷ 4 ∷ 5 ∷ 6 ∷ 7 ∷ 8 ∷ 9 ∷ 10 ∷ 11 ∷ [])
@@ -57,11 +57,11 @@ pub fitting : map (fitting_of (1 ∷ 2 ∷ 3 ∷ [])) (2 ∷ 3 ∷ 4 ∷ []) ≡
 fitting = refl
 
 -- two answer pairs, numbered from 9, in room for both lines, for one and a byte, and for a byte less than one; past 2^32 - 1 comes 0
-pub fitting-lines :
+pub fitting_lines :
     map (λ room. fitting_lines_of room 9 (0x04 ∷ 0x80 ∷ 0x0B ∷ 0x00 ∷ [])) (17 ∷ 16 ∷ 7 ∷ [])
     ≡ (line_of 9 0x04 0x80 ++ line_of 10 0x0B 0x00) ∷ line_of 9 0x04 0x80 ∷ [] ∷ []
 unfolding fitting_lines_of zeros_of digit_of hex_of
-fitting-lines = refl
+fitting_lines = refl
 
 pub round : fitting_lines_of 100 4294967295 (0x04 ∷ 0x80 ∷ 0x0B ∷ 0x00 ∷ []) ≡ line_of 4294967295 0x04 0x80 ++ line_of 0 0x0B 0x00
 unfolding fitting_lines_of zeros_of digit_of hex_of

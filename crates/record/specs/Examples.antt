@@ -101,23 +101,23 @@ unfolding encode_of
 encoded = refl
 
 -- 4 before 7; room for four bytes
-pub event-rooms :
+pub event_rooms :
     map (write_event_of (Receive 0x80)) (3 ∷ 4 ∷ []) ≡ refuses 4 ∷ refuses 4 ∷ []
 unfolding write_event_of operands_of
-event-rooms = refl
+event_rooms = refl
 
 pub event_written : map (write_event_of (Receive 0x0C)) (3 ∷ 4 ∷ 5 ∷ []) ≡ refuses 7 ∷ writes (4 ∷ 0x0C ∷ 0 ∷ 0 ∷ []) ∷ writes (4 ∷ 0x0C ∷ 0 ∷ 0 ∷ []) ∷ []
 unfolding write_event_of operands_of encode_of
 event_written = refl
 
 -- request c: a conversion of the second device is written as any event: 4 before 7
-pub second-event-written :
+pub second_event_written :
     map (write_event_of (ConvertSecond 0x12 0x13 0x40)) (3 ∷ 4 ∷ []) ∷ map (write_event_of (OpenSecond 0x14)) (3 ∷ 5 ∷ []) ∷
     map (write_event_of (ConvertSecond 0x12 0x13 0x41)) (3 ∷ 4 ∷ []) ∷ []
     ≡ (refuses 7 ∷ writes (8 ∷ 0x12 ∷ 0x13 ∷ 0x40 ∷ []) ∷ []) ∷ (refuses 7 ∷ writes (9 ∷ 0x14 ∷ 0 ∷ 0 ∷ []) ∷ []) ∷
     (refuses 4 ∷ refuses 4 ∷ []) ∷ []
 unfolding record_opened
-second-event-written = refl
+second_event_written = refl
 
 pub header_bytes : header_of (2 ∷ []) 0x01020304 ≡ 1 ∷ 2 ∷ 1 ∷ 2 ∷ 3 ∷ 4 ∷ []
 unfolding header_of count_bytes_of
@@ -163,11 +163,11 @@ unfolding write_header2_of variant_of address_of
 header_2_codes = refl
 
 -- a refusal has no bytes
-pub header-2-writings :
+pub header_2_writings :
     write_header2_of 1 4 1 7 ∷ write_header2_of 3 2 1 7 ∷ write_header2_of 1 2 1 6 ∷ write_header2_of 1 2 1 7 ∷ write_header2_of 3 1 258 8 ∷ []
     ≡ refuses 2 ∷ refuses 9 ∷ refuses 7 ∷ writes (2 ∷ 1 ∷ 2 ∷ 0 ∷ 0 ∷ 0 ∷ 1 ∷ []) ∷ writes (2 ∷ 3 ∷ 1 ∷ 0 ∷ 0 ∷ 1 ∷ 2 ∷ []) ∷ []
 unfolding write_header2_of header_of count_bytes_of variant_of address_of
-header-2-writings = refl
+header_2_writings = refl
 
 -- the promises, kept: the bytes in front, and the byte behind them as it was
 pub event_kept : WroteEvent (Receive 0x0C) 0 (9 ∷ 9 ∷ 9 ∷ 9 ∷ 9 ∷ []) (4 ∷ 0x0C ∷ 0 ∷ 0 ∷ 9 ∷ [])

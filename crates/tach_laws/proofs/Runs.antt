@@ -58,20 +58,20 @@ at l i = get_or l i 0
 -- picking one of two numbers, so that the one picked stands so to both
 module _ (stands : ℕ → ℕ → Type 0) (pick : ℕ → ℕ → ℕ)
     (one_of : (a b : ℕ) → (pick a b ≡ a) ⊎ (pick a b ≡ b))
-    (to-first : (a b : ℕ) → stands (pick a b) a)
-    (to-second : (a b : ℕ) → stands (pick a b) b)
+    (to_first : (a b : ℕ) → stands (pick a b) a)
+    (to_second : (a b : ℕ) → stands (pick a b) b)
     (through : (a b c : ℕ) → stands a b → stands b c → stands a c)
   where
     alone_each : (v s i : ℕ) → i < 1 → stands (pick v s) (at (v ∷ []) i)
-    alone_each v s zero h = to-first v s
+    alone_each v s zero h = to_first v s
     alone_each v s (suc i) h = absurd (omega arith)
 
     alone : (v s : ℕ) → pick v s ≡ v → Occurred stands (at (v ∷ [])) 1 (pick v s)
     alone v s e = record { place = 0; within = omega arith; there = sym e; each = alone_each v s }
 
     before_each : (v s : ℕ) (l : List ℕ) → Occurred stands (at l) (length l) s → (i : ℕ) → i < suc (length l) → stands (pick v s) (at (v ∷ l) i)
-    before_each v s l o zero h = to-first v s
-    before_each v s l o (suc i) h = through (pick v s) s (at l i) (to-second v s) (o.each i (omega arith))
+    before_each v s l o zero h = to_first v s
+    before_each v s l o (suc i) h = through (pick v s) s (at l i) (to_second v s) (o.each i (omega arith))
 
     before : (v s : ℕ) (l : List ℕ) → Occurred stands (at l) (length l) s → Occurred stands (at (v ∷ l)) (suc (length l)) (pick v s)
     before v s l o =

@@ -32,7 +32,7 @@ low_byte_of t = word_of t % 8 * 32
 
 -- sample plus offset, not yet held
 unfoldable pub sum_of : ℕ → ℕ → ℕ → ℕ → ℤ
-sum_of high low offsetHigh offsetLow = eighths_of high low +ℤ eighths_of offsetHigh offsetLow
+sum_of high low offset_high offset_low = eighths_of high low +ℤ eighths_of offset_high offset_low
 
 -- held to -1024..1023; request b: the reading also tells whether it was held at either end, which a sum of exactly 1023 or -1024 is not
 unfoldable pub held_of : ℤ → Reading
@@ -42,7 +42,7 @@ held_of sum =
     (record { eighths = sum; held = false }))
 
 abbrev pub held_sum_of : ℕ → ℕ → ℕ → ℕ → Reading
-held_sum_of high low offsetHigh offsetLow = held_of (sum_of high low offsetHigh offsetLow)
+held_sum_of high low offset_high offset_low = held_of (sum_of high low offset_high offset_low)
 
 -- an open diode gives 127 degrees with no offset; request b: it is never held
 abbrev pub open_reading : Reading
