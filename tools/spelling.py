@@ -16,7 +16,8 @@ IMPORT = re.compile(r"use ([\w.]+)\.\{(.*?)\}", re.S)
 SPECIAL = {
     "R": "r_set", "W": "w_set", "OPEN": "diode_open_bit", "LHIGH": "lhigh_bit", "LLOW": "llow_bit", "RHIGH": "rhigh_bit", "RLOW": "rlow_bit",
     "RCRIT": "rcrit_bit", "LCRIT": "lcrit_bit", "LM89C": "lm89c", "LM89-1C": "lm89_1c", "LM89-1D": "lm89_1d", "D1At": "d1_at", "D3At": "d3_at",
-    "D0": "d0", "D1": "d1", "D2": "d2", "D3": "d3", "D4": "d4", "D7": "d7", "Event-of": "EventOf", "at-90-kHz": "at_90_khz", "notRead": "not_read_failure", "notWritten": "not_written_failure",
+    "D0": "d0", "D1": "d1", "D2": "d2", "D3": "d3", "D4": "d4", "D7": "d7", "Event-of": "EventOf",
+    "at-90-kHz": "at_90_khz", "notRead": "not_read_failure", "notWritten": "not_written_failure",
 }
 # laws that would fall together with the function they speak of
 for law in ("as-alone", "bit-of", "bus-after", "first-lower", "in-force", "in-header", "latest-first", "on-bus", "onto-met", "reading-in",
@@ -27,6 +28,10 @@ IN_FILE = {
     "device_laws/proofs/Registers.antt": {"put_byte": "put_byte_lem", "read_number": "read_number_lem"},
     "soak/specs/Examples.antt": {"to_the_start": "to_the_start_lem"},
 }
+
+# names of variables
+VARIABLES = ("oldCount", "offsetHigh", "offsetLow", "to-first", "to-second", "low-kept", "o-half", "o-odd", "a-odd", "b-half", "b-odd", "four-long", "wide-end",
+             "table-in")
 
 
 def snake(name):
@@ -73,6 +78,8 @@ def declared():
             found = DECLARED.match(line) or TYPE.match(line)
             if found and not (of_function(path) and (": tie." in line or found[1].endswith(("-spec", "_spec")))):
                 own[found[1]].add(path)
+    for name in VARIABLES:
+        own[name].add("")
     return own, other
 
 
