@@ -1,5 +1,6 @@
 #!/usr/bin/env python3
-"""House rules that the prover does not check; exits 1 and names each place that breaks one. Layout is the toolchain's: `rt ci` refuses what `rt fmt` would change.
+"""House rules that the prover does not check; exits 1 and names each place that breaks one. Layout is the toolchain's: `rt ci` refuses
+what `rt fmt` would change.
 
 - a `use` line brings in nothing that its file does not name;
 - a public function has an `ensures` that says something, and no `requires` (`pub(crate)` is private);

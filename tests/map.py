@@ -27,7 +27,8 @@ CIRCULAR = (
     "let b = a in result ≡ f b result", "result ≡ (a && g.result result)", "result.code ≡ result.code", "result.code ≡ f result", "d.new ≡ f d.old d.new.x",
 )
 PLAIN = (
-    "result ≡ f a", "result ≡ result' a", "result ≡ result_of a", "result ≡ f-result a", "(result ≡ f a) × (d.new ≡ g result)", "Full a result", "result ≡ a.result",
+    "result ≡ f a", "result ≡ result' a", "result ≡ result_of a", "result ≡ f-result a", "(result ≡ f a) × (d.new ≡ g result)", "Full a result",
+     "result ≡ a.result",
     "result.code ≡ f result.read", "d.new ≡ f d.old result", "f result.a ≡ g a", "f.result ≡ result a",
 )
 # contracts, and whether an equation for the result tells all of each

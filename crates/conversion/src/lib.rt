@@ -1,7 +1,8 @@
 #![tactic(auto)]
 // A taken conversion (P2 to P5, P8, request b): what the device senses, and what follows from it.
 ghost use Rattle.std.specs.Prelude.{◌≡◌};
-ghost use Rattle.conversion.specs.Conversion.{reading_of, local_limits_of, remote_limits_of, out_of, any_of, count_of, queued_of, shown_of, bit_of, live_of, latch_of, sensed_of};
+ghost use Rattle.conversion.specs.Conversion.{reading_of, local_limits_of, remote_limits_of, out_of, any_of, count_of};
+ghost use Rattle.conversion.specs.Conversion.{queued_of, shown_of, bit_of, live_of, latch_of, sensed_of};
 
 use registers::bits;
 use temperature::Reading;

@@ -1,7 +1,8 @@
 -- Request g, the fan table of source document 000. Entries are numbered 1 to 8, as the page has them: step k is entry k, and step 0 is none. Temperatures are
 -- whole degrees; a reading is one of -128 to 127, and a temperature less hysteresis goes below 0 with no wrap.
 -- Assumes nothing.
-use Rattle.std.specs.Prelude.{ℕ, zero, suc, ◌+◌, ◌*◌, ◌≤◌, ◌<◌, ◌≡◌, Bool, true, false, ◌&&◌, ◌||◌, cond, List, [], ◌∷◌, map, leb, ltb, get_or, ℤ, pos, ◌-ℤ◌}
+use Rattle.std.specs.Prelude.{ℕ, zero, suc, ◌+◌, ◌*◌, ◌≤◌, ◌<◌, ◌≡◌, Bool, true, false, ◌&&◌, ◌||◌, cond, leb, ltb, ℤ, pos, ◌-ℤ◌}
+use Rattle.std.specs.Prelude.{List, [], ◌∷◌, map, get_or}
 use Rattle.std.specs.Int.Signed.{le_z}
 
 -- ---- the table: eight pairs of temperature and PWM value

@@ -1,6 +1,7 @@
 -- The loop's turns: what is known between two of them, that each takes a byte or is the last, and what each way out gives.
 -- Assumes nothing.
-use Rattle.std.proofs.Common.{◌≡◌, ℕ, ◌-◌, ◌<◌, Bool, true, false, eqb, ltb, List, [], ◌∷◌, ◌++◌, length, take, ℤ, sym, refl, ap, ◌∙◌, append_assoc, arith, ltb-false, ltb-true, eqb-true}
+use Rattle.std.proofs.Common.{◌≡◌, ℕ, ◌-◌, ◌<◌, Bool, true, false, eqb, ltb, List, [], ◌∷◌, ◌++◌, length, take, ℤ}
+use Rattle.std.proofs.Common.{sym, refl, ap, ◌∙◌, append_assoc, arith, ltb-false, ltb-true, eqb-true}
 use borrow.Author.Tests.{eqb-false}
 use Rattle.laws.proofs.Choices.{clash, by_test, and_left, and_right}
 use Rattle.capture.specs.declared.Reader.{Reader}

@@ -76,7 +76,8 @@ unfolding sum_of eighths_of degrees_of
 sums = refl
 
 -- strictly above and strictly below: a reading at its limit is within it
-pub strict : above_of (pos 681) (pos 680) ∷ above_of (pos 680) (pos 680) ∷ below_of (pos 679) (pos 680) ∷ below_of (pos 680) (pos 680) ∷ [] ≡ true ∷ false ∷ true ∷ false ∷ []
+pub strict : above_of (pos 681) (pos 680) ∷ above_of (pos 680) (pos 680) ∷ below_of (pos 679) (pos 680) ∷ below_of (pos 680) (pos 680) ∷ []
+    ≡ true ∷ false ∷ true ∷ false ∷ []
 strict = refl
 
 -- T_CRIT 85, hysteresis 5: 80.000 is not below, 79.875 is; T_CRIT -128, hysteresis 1: -128 is not below -129

@@ -10,4 +10,16 @@ returns c =
     let back3 = same c.eighths-3.result c.eighths-3.type_inv in
     let back2 = same c.eighths-2.result c.eighths-2.type_inv in
     let back1 = same c.eighths.result c.eighths.type_inv in
-    rw (back3, back2, back1, c.eighths-3.ensures, c.eighths-2.ensures, c.eighths.ensures, remote_high s, remote_high_part s, remote_low s, remote_low_part s, remote_crit s)
+    rw (
+      back3,
+      back2,
+      back1,
+      c.eighths-3.ensures,
+      c.eighths-2.ensures,
+      c.eighths.ensures,
+      remote_high s,
+      remote_high_part s,
+      remote_low s,
+      remote_low_part s,
+      remote_crit s,
+    )
