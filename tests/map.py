@@ -28,7 +28,7 @@ CIRCULAR = (
 )
 PLAIN = (
     "result ≡ f a", "result ≡ result' a", "result ≡ result_of a", "result ≡ f-result a", "(result ≡ f a) × (d.new ≡ g result)", "Full a result",
-     "result ≡ a.result",
+    "result ≡ a.result",
     "result.code ≡ f result.read", "d.new ≡ f d.old result", "f result.a ≡ g a", "f.result ≡ result a",
 )
 # contracts, and whether an equation for the result tells all of each
