@@ -13,7 +13,7 @@ pub mod ranges;
 
 // The fourteen settings stand in rising order of their write addresses; `low` is the byte kept at a read of 01, if one is.
 #[repr(C)]
-#[derive(Clone, Copy)]
+#[derive(Clone, Copy, PartialEq, Eq)]
 pub struct Device {
     pub sensed: Sensed,
     pub variant: u8,
@@ -26,7 +26,7 @@ pub struct Device {
 }
 
 // Address, register and value; local byte, remote high and low byte: raw, as in a record. The last two are conversions of a bus's second device.
-#[derive(Clone, Copy)]
+#[derive(Clone, Copy, PartialEq, Eq)]
 pub enum Event {
     Write(u8, u8, u8),
     Read(u8, u8),
@@ -61,7 +61,7 @@ pub struct Outcome {
     pub byte: u8,
 }
 
-#[derive(Clone, Copy)]
+#[derive(Clone, Copy, PartialEq, Eq)]
 pub struct Pins {
     pub alert: bool,
     pub tcrit: bool,
