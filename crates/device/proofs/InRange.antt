@@ -21,7 +21,7 @@ use Rattle.temperature.proofs.Laws.{held_scale}
 use Rattle.registers.specs.Bits.{has}
 use Rattle.registers.specs.Page.{known_of, readable_of, writable_of, write_position_of, read_position_of, one_shot, setting_of, changed_of, kept_of}
 use Rattle.registers.specs.Page.{power_on_of, read_only_of, address_of, Settable, settable}
-use Rattle.registers.specs.declared.Position.TheVariants.{At}
+use Rattle.std.specs.Prelude.{Some}
 use Rattle.registers.proofs.Settings.{kept_at, configuration, change_configuration, write_kept, write_known, write_changed, write_placed}
 use Rattle.registers.proofs.Entries.{zero_at}
 use Rattle.conversion.specs.Conversion.{reading_of, sensed_of}
@@ -94,7 +94,7 @@ module _ {d : Device} (r : Ranged d) where
         lowkept = r.lowkept;
       }
 
-  stored_ranged : (w i v : ℕ) → write_position_of w ≡ At i → Ranged (stored_of d w v)
+  stored_ranged : (w i v : ℕ) → write_position_of w ≡ Some i → Ranged (stored_of d w v)
   unfolding stored_of
   stored_ranged w i v p =
       record {
@@ -110,7 +110,7 @@ module _ {d : Device} (r : Ranged d) where
         lowkept = r.lowkept;
       }
     where
-      stays : (w i v : ℕ) → write_position_of w ≡ At i → bit_and (bit_and v (kept_of w)) (kept_at i) ≡ bit_and v (kept_of w)
+      stays : (w i v : ℕ) → write_position_of w ≡ Some i → bit_and (bit_and v (kept_of w)) (kept_at i) ≡ bit_and v (kept_of w)
       stays w i v p = rw (← (write_kept w i p)) (and_again v (kept_of w))
 
       both : (p s : Bool) → (not (p && s) || s) ≡ true

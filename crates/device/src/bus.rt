@@ -1,7 +1,6 @@
 // P6, P9 to P11 and requests a and b: the bus, conversions and power-on.
-ghost use Rattle.std.specs.Prelude.{◌≡◌};
+ghost use Rattle.std.specs.Prelude.{◌≡◌, Some};
 ghost use Rattle.registers.specs.Page.{write_position_of};
-ghost use Rattle.registers.specs.declared.Position.TheVariants.{At};
 ghost use Rattle.device.specs.Bus.{silent_of, answered_of, pointed_of, masked_of, stored_of, fired_of, put_of, status_read_of};
 ghost use Rattle.device.specs.Bus.{low_kept_of, low_let_go_of, low_read_of, after_read_of};
 ghost use Rattle.device.specs.Bus.{read_only_value_of, get_of, point_of, responds_of, respond_of, takes_of, converted_of, sense_of, powered_of};
@@ -9,7 +8,7 @@ ghost use Rattle.device.specs.Asking.{asked_at, asked_of};
 
 use super::{Asked, Device, Event, Outcome, outputs};
 use conversion::Sensed;
-use registers::{Position, bits};
+use registers::bits;
 use temperature::Reading;
 
 pub const ALERT_RESPONSE: u8 = 0x0C;
@@ -57,7 +56,7 @@ fn masked(d: Device) -> Device
 
 // The byte of the register that is written at `reg`, which stands at position `i`.
 fn stored(d: Device, reg: u8, i: usize, v: u8) -> Device
-    requires { write_position_of reg ≡ At i }
+    requires { write_position_of reg ≡ Some i }
     ensures { result ≡ stored_of d reg v }
 {
     let mut n = d;
@@ -83,10 +82,9 @@ pub(crate) fn put(d: Device, reg: u8, v: u8) -> Outcome
     if !registers::writable(reg) {
         return silent(d);
     }
-    let p = registers::write_position(reg);
-    match p {
-        Position::At(i) => answered(stored(d, reg, i as usize, v), 0),
-        Position::Nowhere => answered(fired(d), 0),
+    match registers::write_position(reg) {
+        Some(i) => answered(stored(d, reg, i as usize, v), 0),
+        None => answered(fired(d), 0),
     }
 }
 
@@ -157,10 +155,9 @@ pub(crate) fn get(d: Device, reg: u8) -> Outcome
         return silent(d);
     }
     let n = pointed(d, reg);
-    let p = registers::read_position(reg);
-    match p {
-        Position::At(i) => answered(n, d.settings[i as usize]),
-        Position::Nowhere => read_only(n, reg),
+    match registers::read_position(reg) {
+        Some(i) => answered(n, d.settings[i as usize]),
+        None => read_only(n, reg),
     }
 }
 

@@ -14,8 +14,7 @@ use lib.ListN.{get_or, set, length}
 use lib.Seq.{get_or-set_same, get_or-set_other, set_comm}
 use borrow.Author.Tests.{eqb-true, eqb-false}
 use Rattle.laws.proofs.Choices.{by_test, clash}
-use Rattle.registers.specs.declared.Position.{Position}
-use Rattle.registers.specs.declared.Position.TheVariants.{At, Nowhere}
+use Rattle.std.specs.Prelude.{Option, Some, None}
 use Rattle.registers.specs.Page.{Settable, settable, among, on_position, read_position_of, setting_of, changed_of, settable_of}
 use Rattle.registers.proofs.Settings.{somewhere, settable_position, read_below}
 
@@ -44,23 +43,23 @@ abbrev read_numbers : List ℕ
 read_numbers = map (λ (s : Settable). s.read) settable
 
 -- a position names one register
-number_at : (r i : ℕ) → read_position_of r ≡ At i → get_or read_numbers i 0 ≡ r
+number_at : (r i : ℕ) → read_position_of r ≡ Some i → get_or read_numbers i 0 ≡ r
 unfolding settable_of read_position_of
 number_at r i e =
     let listed : among r read_numbers ≡ true = sym (settable_position r) ∙ ap somewhere e in
     let back = on_list (λ x. on_position (read_position_of x) (λ j. get_or read_numbers j 0) 0) (λ x. x) read_numbers refl r listed in
-    ap (λ (p : Position). on_position p (λ j. get_or read_numbers j 0) 0) (sym e) ∙ back
+    ap (λ (p : Option ℕ). on_position p (λ j. get_or read_numbers j 0) 0) (sym e) ∙ back
 
 -- another register's byte stays, in any list
 pub setting_other : (s : List ℕ) (r q b : ℕ) → eqb r q ≡ false → setting_of (changed_of s q b) r ≡ setting_of s r
 unfolding setting_of changed_of
 setting_other s r q b e = split (read_position_of r) (read_position_of q) refl refl
   where
-    split : (m n : Position) → read_position_of r ≡ m → read_position_of q ≡ n
+    split : (m n : Option ℕ) → read_position_of r ≡ m → read_position_of q ≡ n
         → on_position m (λ i. get_or (on_position n (λ j. set s j b) s) i 0) 0 ≡ on_position m (λ i. get_or s i 0) 0
-    split Nowhere n p t = refl
-    split (At i) Nowhere p t = refl
-    split (At i) (At j) p t =
+    split None n p t = refl
+    split (Some i) None p t = refl
+    split (Some i) (Some j) p t =
         get_or-set_other s j i b 0 (λ same. eqb-false r q e (sym (number_at r i p) ∙ ap (λ (k : ℕ). get_or read_numbers k 0) same ∙ number_at q j t))
 
 -- the changed register's byte is the new one, in fourteen bytes
@@ -68,9 +67,9 @@ pub setting_same : (s : List ℕ) (q b : ℕ) → length s ≡ 14 → settable_o
 unfolding setting_of changed_of
 setting_same s q b whole e = split (read_position_of q) refl (settable_position q ∙ e)
   where
-    split : (p : Position) → read_position_of q ≡ p → somewhere p ≡ true → on_position p (λ i. get_or (on_position p (λ j. set s j b) s) i 0) 0 ≡ b
-    split Nowhere t h = clash h
-    split (At i) t h = let inside : i < length s = rw whole (read_below q i t) in get_or-set_same s i b 0 inside
+    split : (p : Option ℕ) → read_position_of q ≡ p → somewhere p ≡ true → on_position p (λ i. get_or (on_position p (λ j. set s j b) s) i 0) 0 ≡ b
+    split None t h = clash h
+    split (Some i) t h = let inside : i < length s = rw whole (read_below q i t) in get_or-set_same s i b 0 inside
 
 pub setting_changed : (s : List ℕ) (r q b : ℕ) → length s ≡ 14 → settable_of q ≡ true → setting_of (changed_of s q b) r ≡ cond (eqb r q) b (setting_of s r)
 setting_changed s r q b whole e =
@@ -95,20 +94,20 @@ module _ (g : ℕ → ℕ) where
   unfolding setting_of changed_of
   setting_mapped s q e = split (read_position_of q)
     where
-      split : (p : Position) → let old = on_position p (λ i. get_or s i 0) 0 in
+      split : (p : Option ℕ) → let old = on_position p (λ i. get_or s i 0) 0 in
           on_position p (λ i. get_or (on_position p (λ j. set s j (g old)) s) i 0) 0 ≡ g old
-      split (At i) = get_mapped s i e
-      split Nowhere = sym e
+      split (Some i) = get_mapped s i e
+      split None = sym e
 
   pub changed_mapped : (s : List ℕ) (q b : ℕ) → changed_of (changed_of s q b) q (g (setting_of (changed_of s q b) q)) ≡ changed_of s q (g b)
   unfolding setting_of changed_of
   changed_mapped s q b = split (read_position_of q)
     where
-      split : (p : Position) →
+      split : (p : Option ℕ) →
           let once = on_position p (λ i. set s i b) s in
           on_position p (λ i. set once i (g (on_position p (λ j. get_or once j 0) 0))) once ≡ on_position p (λ i. set s i (g b)) s
-      split (At i) = set_mapped s i b
-      split Nowhere = refl
+      split (Some i) = set_mapped s i b
+      split None = refl
 
 pub changed_same : (s : List ℕ) (q a b : ℕ) → changed_of (changed_of s q a) q b ≡ changed_of s q b
 changed_same s q a b = changed_mapped (λ x. b) s q a
@@ -117,14 +116,14 @@ pub changed_other : (s : List ℕ) (q r a b : ℕ) → eqb q r ≡ false → cha
 unfolding changed_of
 changed_other s q r a b e = split (read_position_of q) (read_position_of r) refl refl
   where
-    split : (m n : Position) → read_position_of q ≡ m → read_position_of r ≡ n
+    split : (m n : Option ℕ) → read_position_of q ≡ m → read_position_of r ≡ n
         → let first = on_position m (λ i. set s i a) s in
         let second = on_position n (λ i. set s i b) s in
         on_position n (λ i. set first i b) first ≡ on_position m (λ i. set second i a) second
-    split Nowhere Nowhere p t = refl
-    split Nowhere (At j) p t = refl
-    split (At i) Nowhere p t = refl
-    split (At i) (At j) p t =
+    split None None p t = refl
+    split None (Some j) p t = refl
+    split (Some i) None p t = refl
+    split (Some i) (Some j) p t =
         set_comm s i j a b (λ same. eqb-false q r e (sym (number_at q i p) ∙ ap (λ (k : ℕ). get_or read_numbers k 0) same ∙ number_at r j t))
 
 -- ---- a mask of a mask

@@ -11,8 +11,7 @@ use lib.ListN.{get_or, length}
 use borrow.Author.Tests.{eqb-true, leb-true}
 use Rattle.laws.proofs.Choices.{cond_ind, by_test, clash, and_left, and_right}
 use Rattle.temperature.specs.declared.Reading.{Reading}
-use Rattle.registers.specs.declared.Position.{Position}
-use Rattle.registers.specs.declared.Position.TheVariants.{At, Nowhere}
+use Rattle.std.specs.Prelude.{Option, Some, None}
 use Rattle.registers.specs.Page.{r_set, w_set, Settable, settable, among, on_position, readable_of, writable_of, known_of, address_of, read_at_of}
 use Rattle.registers.specs.Page.{kept_of, settable_of, read_position_of, setting_of, power_on_of, read_only_of}
 use Rattle.registers.proofs.Settings.{somewhere, settable_position}
@@ -200,9 +199,9 @@ setting_none : (s : List ℕ) (q : ℕ) → settable_of q ≡ false → setting_
 unfolding setting_of
 setting_none s q e = split (read_position_of q) (settable_position q ∙ e)
   where
-    split : (p : Position) → somewhere p ≡ false → on_position p (λ i. get_or s i 0) 0 ≡ 0
-    split (At i) h = clash (sym h)
-    split Nowhere h = refl
+    split : (p : Option ℕ) → somewhere p ≡ false → on_position p (λ i. get_or s i 0) 0 ≡ 0
+    split (Some i) h = clash (sym h)
+    split None h = refl
 
 start_none : (v q : ℕ) → settable_of q ≡ false → start_byte v q ≡ 0
 unfolding settable_of

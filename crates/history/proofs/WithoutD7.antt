@@ -11,8 +11,7 @@ use native.Mathlib.Nat.{lt_of_le_of_lt, mod-eq_of_lt}
 use lib.Dec.{eqb}
 use lib.Bits.{bit_and, bit_or, and_mask, and_mod, or_mod, or_zero_r, and_le_r}
 use lib.ListN.{set}
-use Rattle.registers.specs.declared.Position.{Position}
-use Rattle.registers.specs.declared.Position.TheVariants.{At, Nowhere}
+use Rattle.std.specs.Prelude.{Option, Some, None}
 use Rattle.registers.specs.Bits.{has, alert_mask}
 use Rattle.registers.specs.Page.{read_position_of, on_position, setting_of, changed_of}
 use Rattle.conversion.specs.Conversion.{reading_of, remote_limits_of}
@@ -48,14 +47,14 @@ unfolding without_d7 changed_of setting_of read_position_of
 masking [] = refl
 masking (c ∷ s) = ap (λ (x : ℕ). x ∷ s) (masked_byte c)
 
-at_position : (p : Position) (s : List ℕ) (b : ℕ)
+at_position : (p : Option ℕ) (s : List ℕ) (b : ℕ)
     → without_d7 (on_position p (λ i. set (without_d7 s) i b) (without_d7 s)) ≡ without_d7 (on_position p (λ i. set s i b) s)
 unfolding without_d7 changed_of setting_of read_position_of
-at_position (At i) [] b = refl
-at_position (At zero) (c ∷ s) b = refl
-at_position (At (suc i)) (c ∷ s) b = ap (λ (x : ℕ). x ∷ set s i b) (again_byte c)
-at_position Nowhere [] b = refl
-at_position Nowhere (c ∷ s) b = ap (λ (x : ℕ). x ∷ s) (again_byte c)
+at_position (Some i) [] b = refl
+at_position (Some zero) (c ∷ s) b = refl
+at_position (Some (suc i)) (c ∷ s) b = ap (λ (x : ℕ). x ∷ set s i b) (again_byte c)
+at_position None [] b = refl
+at_position None (c ∷ s) b = ap (λ (x : ℕ). x ∷ s) (again_byte c)
 
 pub changing : (s : List ℕ) (r b : ℕ) → without_d7 (changed_of (without_d7 s) r b) ≡ without_d7 (changed_of s r b)
 unfolding changed_of

@@ -10,8 +10,7 @@ use lib.ListN.{get_or, set, length}
 use borrow.Author.Tests.{eqb-true}
 use Rattle.laws.proofs.Choices.{by_test, clash, or_right}
 use Rattle.laws.proofs.Tables.{agree}
-use Rattle.registers.specs.declared.Position.{Position}
-use Rattle.registers.specs.declared.Position.TheVariants.{At, Nowhere}
+use Rattle.std.specs.Prelude.{Option, Some, None}
 use Rattle.registers.specs.Page.{w_set, Settable, settable, among, find, on_position, setting_of, changed_of, read_position_of, write_position_of}
 use Rattle.registers.specs.Page.{settable_of, read_at_of, one_shot, kept_of, known_of, readable_of, writable_of, address_of}
 
@@ -80,11 +79,11 @@ pub record Found (x n i : ℕ) (l : List ℕ) : Type 0 where
   pub below : i < n + length l
   pub entry : x ≡ get_or l (i - n) 0
 
-found : (x n : ℕ) (l : List ℕ) (i : ℕ) → find x n l ≡ At i → Found x n i l
+found : (x n : ℕ) (l : List ℕ) (i : ℕ) → find x n l ≡ Some i → Found x n i l
 found x n [] i e = let z : ◌≡◌ {A = ℕ} 0 1 = cc in absurd (omega arith)
 found x n (y ∷ ys) i e = by_test (eqb x y) (λ t. here t (rw t at e)) (λ t. there (found x (suc n) ys i (rw t at e)))
   where
-    here : eqb x y ≡ true → At n ≡ At i → Found x n i (y ∷ ys)
+    here : eqb x y ≡ true → Some n ≡ Some i → Found x n i (y ∷ ys)
     here t q =
         let same : n ≡ i = cc in
         let none : i - n ≡ 0 = omega arith in
@@ -98,16 +97,16 @@ found x n (y ∷ ys) i e = by_test (eqb x y) (λ t. here t (rw t at e)) (λ t. t
 abbrev write_addresses : List ℕ
 write_addresses = map (λ (s : Settable). s.write) settable
 
-pub write_below : (w i : ℕ) → write_position_of w ≡ At i → i < 14
+pub write_below : (w i : ℕ) → write_position_of w ≡ Some i → i < 14
 unfolding write_position_of
 write_below w i e = (found w 0 write_addresses i e).below
 
-pub read_below : (r i : ℕ) → read_position_of r ≡ At i → i < 14
+pub read_below : (r i : ℕ) → read_position_of r ≡ Some i → i < 14
 unfolding read_position_of
 read_below r i e = (found r 0 (map (λ (s : Settable). s.read) settable) i e).below
 
 -- a settable register stands at its write address
-write_entry : (w i : ℕ) → write_position_of w ≡ At i → w ≡ get_or write_addresses i 0
+write_entry : (w i : ℕ) → write_position_of w ≡ Some i → w ≡ get_or write_addresses i 0
 unfolding write_position_of
 write_entry w i e = let whole : i - 0 ≡ i = omega arith in rw whole at (found w 0 write_addresses i e).entry
 
@@ -116,36 +115,36 @@ abbrev pub kept_at : ℕ → ℕ
 kept_at i = get_or (map (λ (s : Settable). s.kept) settable) i 0
 
 -- the mask of a register is the one at its position
-pub write_kept : (w i : ℕ) → write_position_of w ≡ At i → kept_of w ≡ kept_at i
+pub write_kept : (w i : ℕ) → write_position_of w ≡ Some i → kept_of w ≡ kept_at i
 unfolding kept_of
 write_kept w i e =
     ap kept_of (write_entry w i e) ∙ agree (λ k. kept_of (get_or write_addresses k 0)) kept_at 14 refl i (write_below w i e)
 
 -- a settable register is in W
-pub write_writable : (w i : ℕ) → write_position_of w ≡ At i → writable_of w ≡ true
+pub write_writable : (w i : ℕ) → write_position_of w ≡ Some i → writable_of w ≡ true
 unfolding writable_of
 write_writable w i e =
     ap writable_of (write_entry w i e) ∙ agree (λ k. writable_of (get_or write_addresses k 0)) (λ k. true) 14 refl i (write_below w i e)
 
-pub write_known : (w i : ℕ) → write_position_of w ≡ At i → known_of w ≡ true
+pub write_known : (w i : ℕ) → write_position_of w ≡ Some i → known_of w ≡ true
 unfolding known_of
 write_known w i e = or_right (readable_of w) (writable_of w) (write_writable w i e)
 
 -- ---- a write, by register numbers and by position
 
 -- the register written at w is read at `read_at_of w`, where its byte stands
-pub write_read : (w i : ℕ) → write_position_of w ≡ At i → read_position_of (read_at_of w) ≡ At i
+pub write_read : (w i : ℕ) → write_position_of w ≡ Some i → read_position_of (read_at_of w) ≡ Some i
 unfolding read_at_of read_position_of
 write_read w i e =
     ap (λ (x : ℕ). read_position_of (read_at_of x)) (write_entry w i e)
-    ∙ agree (λ k. read_position_of (read_at_of (get_or write_addresses k 0))) (λ k. At k) 14 refl i (write_below w i e)
+    ∙ agree (λ k. read_position_of (read_at_of (get_or write_addresses k 0))) (λ k. Some k) 14 refl i (write_below w i e)
 
-pub write_changed : (s : List ℕ) (w i b : ℕ) → write_position_of w ≡ At i → changed_of s (read_at_of w) b ≡ set s i b
+pub write_changed : (s : List ℕ) (w i b : ℕ) → write_position_of w ≡ Some i → changed_of s (read_at_of w) b ≡ set s i b
 unfolding changed_of
-write_changed s w i b e = ap (λ (p : Position). on_position p (λ j. set s j b) s) (write_read w i e)
+write_changed s w i b e = ap (λ (p : Option ℕ). on_position p (λ j. set s j b) s) (write_read w i e)
 
 -- 0F holds no byte
-pub write_not_shot : (w i : ℕ) → write_position_of w ≡ At i → eqb w one_shot ≡ false
+pub write_not_shot : (w i : ℕ) → write_position_of w ≡ Some i → eqb w one_shot ≡ false
 write_not_shot w i e =
     ap (λ (x : ℕ). eqb x one_shot) (write_entry w i e)
     ∙ agree (λ k. eqb (get_or write_addresses k 0) one_shot) (λ k. false) 14 refl i (write_below w i e)
@@ -165,9 +164,9 @@ entry_of x (y ∷ ys) e =
     behind : Entry x ys → Entry x (y ∷ ys)
     behind f = record { place = suc f.place; inside = omega (arith, f.inside); there = f.there }
 
-abbrev pub somewhere : Position → Bool
-somewhere (At i) = true
-somewhere Nowhere = false
+abbrev pub somewhere : Option ℕ → Bool
+somewhere (Some i) = true
+somewhere None = false
 
 -- a writable register has a position, but for 0F
 pub write_somewhere : (w : ℕ) → writable_of w ≡ true → (eqb w one_shot || somewhere (write_position_of w)) ≡ true
@@ -178,20 +177,20 @@ write_somewhere w e =
     ∙ agree (λ k. eqb (get_or w_set k 0) one_shot || somewhere (write_position_of (get_or w_set k 0))) (λ k. true) 15 refl f.place f.inside
 
 -- so what is writable and has none is 0F
-pub write_shot : (w : ℕ) → writable_of w ≡ true → write_position_of w ≡ Nowhere → eqb w one_shot ≡ true
+pub write_shot : (w : ℕ) → writable_of w ≡ true → write_position_of w ≡ None → eqb w one_shot ≡ true
 write_shot w e n = by_test (eqb w one_shot) (λ t. t) (λ t. clash (rw (t, n) at (write_somewhere w e)))
 
 -- and every other has one
 pub record Placed (w : ℕ) : Type 0 where
   pub place : ℕ
-  pub there : write_position_of w ≡ At place
+  pub there : write_position_of w ≡ Some place
 
 pub write_placed : (w : ℕ) → writable_of w ≡ true → eqb w one_shot ≡ false → Placed w
 write_placed w e n = split (write_position_of w) refl (rw n at (write_somewhere w e))
   where
-    split : (p : Position) → write_position_of w ≡ p → somewhere p ≡ true → Placed w
-    split (At i) q t = record { place = i; there = q }
-    split Nowhere q t = clash t
+    split : (p : Option ℕ) → write_position_of w ≡ p → somewhere p ≡ true → Placed w
+    split (Some i) q t = record { place = i; there = q }
+    split None q t = clash t
 
 -- ---- a read, by register numbers and by position
 

@@ -2,9 +2,7 @@
 -- (R) and writable (W), the fourteen settable bytes with the bits they keep, and the power-on bytes of each variant. The kept bits
 -- are document 01's; 004's test registers B0h to BEh are left out, since document 01 has them neither in R nor in W.
 -- Assumes nothing.
-use Rattle.std.specs.Prelude.{ℕ, suc, Bool, false, ◌||◌, cond, List, [], ◌∷◌, map, eqb, get_or, set}
-use Rattle.registers.specs.declared.Position.{Position}
-use Rattle.registers.specs.declared.Position.TheVariants.{At, Nowhere}
+use Rattle.std.specs.Prelude.{ℕ, suc, Bool, false, ◌||◌, cond, List, [], ◌∷◌, map, eqb, get_or, set, Option, Some, None}
 
 -- ---- the page
 
@@ -133,22 +131,22 @@ abbrev pub settable : List Settable
 settable = settables page
 
 -- where x stands in a list that begins at position n
-abbrev pub find : ℕ → ℕ → List ℕ → Position
-find x n [] = Nowhere
-find x n (y ∷ ys) = cond (eqb x y) (At n) (find x (suc n) ys)
+abbrev pub find : ℕ → ℕ → List ℕ → Option ℕ
+find x n [] = None
+find x n (y ∷ ys) = cond (eqb x y) (Some n) (find x (suc n) ys)
 
 -- the position of the settable register that is written at w, or that is read at r
-unfoldable pub write_position_of : ℕ → Position
+unfoldable pub write_position_of : ℕ → Option ℕ
 write_position_of w = find w 0 (map (λ (s : Settable). s.write) settable)
 
-unfoldable pub read_position_of : ℕ → Position
+unfoldable pub read_position_of : ℕ → Option ℕ
 read_position_of r = find r 0 (map (λ (s : Settable). s.read) settable)
 
 -- one answer for a position, another for none
 module _ {A : Type 0} where
-  abbrev pub on_position : Position → (ℕ → A) → A → A
-  on_position (At i) some none = some i
-  on_position Nowhere some none = none
+  abbrev pub on_position : Option ℕ → (ℕ → A) → A → A
+  on_position (Some i) some none = some i
+  on_position None some none = none
 
 -- of the fourteen bytes, the one of the settable register that is read at r
 unfoldable pub setting_of : List ℕ → ℕ → ℕ

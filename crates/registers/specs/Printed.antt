@@ -1,7 +1,6 @@
 -- What document 01 prints of the registers, as theorems about the page: R, W, the kept bits and the power-on tables.
 -- Assumes nothing.
-use Rattle.std.specs.Prelude.{◌≡◌, refl, true, false, [], ◌∷◌, map, ℕ}
-use Rattle.registers.specs.declared.Position.TheVariants.{At, Nowhere}
+use Rattle.std.specs.Prelude.{◌≡◌, refl, true, false, [], ◌∷◌, map, ℕ, Some, None}
 use Rattle.registers.specs.Page.{r_set, w_set, settable, Settable, readable_of, writable_of, known_of, write_position_of, read_position_of, kept_of, read_at_of}
 use Rattle.registers.specs.Page.{settable_of, power_on_of, read_only_of, address_of}
 
@@ -32,11 +31,11 @@ unfolding settable_of
 settable_printed = refl
 
 -- the position of the first and of the last settable register, by both numbers; 0F and 00 have none
-pub positions : map write_position_of (0x09 ∷ 0xBF ∷ 0x03 ∷ 0x0F ∷ []) ≡ At 0 ∷ At 13 ∷ Nowhere ∷ Nowhere ∷ []
+pub positions : map write_position_of (0x09 ∷ 0xBF ∷ 0x03 ∷ 0x0F ∷ []) ≡ Some 0 ∷ Some 13 ∷ None ∷ None ∷ []
 unfolding write_position_of
 positions = refl
 
-pub read_positions : map read_position_of (0x03 ∷ 0xBF ∷ 0x09 ∷ 0x00 ∷ []) ≡ At 0 ∷ At 13 ∷ Nowhere ∷ Nowhere ∷ []
+pub read_positions : map read_position_of (0x03 ∷ 0xBF ∷ 0x09 ∷ 0x00 ∷ []) ≡ Some 0 ∷ Some 13 ∷ None ∷ None ∷ []
 unfolding read_position_of
 read_positions = refl
 

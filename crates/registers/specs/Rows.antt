@@ -1,9 +1,7 @@
 -- What a register number is asked for, by the page and by a row of the program's table of registers: what that table promises. The sorts
 -- of access are the program's; nothing of them stands in document 01.
 -- Assumes nothing.
-use Rattle.std.specs.Prelude.{ℕ, Bool, ◌&&◌, not, cond, eqb, ltb}
-use Rattle.registers.specs.declared.Position.{Position}
-use Rattle.registers.specs.declared.Position.TheVariants.{At, Nowhere}
+use Rattle.std.specs.Prelude.{ℕ, Bool, ◌&&◌, not, cond, eqb, ltb, Option, Some, None}
 use Rattle.registers.specs.Bits.{has}
 use Rattle.registers.specs.Page.{readable_of, writable_of, known_of, read_position_of, write_position_of, kept_of}
 
@@ -11,8 +9,8 @@ pub record Told : Type 0 where
   pub readable : Bool
   pub writable : Bool
   pub known : Bool
-  pub read_position : Position
-  pub write_position : Position
+  pub read_position : Option ℕ
+  pub write_position : Option ℕ
   pub kept : ℕ
 
 abbrev pub by_page : ℕ → Told
@@ -33,8 +31,8 @@ reading_of reg = cond (ltb reg 0x09) 0b101 0b001
 abbrev pub writing_of : ℕ → ℕ
 writing_of reg = cond (ltb reg 0x09) 0b010 0b110
 
-abbrev pub placed_of : Bool → ℕ → Position
-placed_of on place = cond (on && ltb place 14) (At place) Nowhere
+abbrev pub placed_of : Bool → ℕ → Option ℕ
+placed_of on place = cond (on && ltb place 14) (Some place) None
 
 abbrev pub by_row : ℕ → ℕ → ℕ → ℕ → Told
 by_row reg access place kept =

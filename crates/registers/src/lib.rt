@@ -9,13 +9,6 @@ ghost use Rattle.registers.specs.Page.{readable_of, writable_of, known_of, write
 pub mod bits;
 mod page;
 
-// Where a settable register's byte stands among the fourteen.
-#[derive(Drop)]
-pub enum Position {
-    At(u8),
-    Nowhere,
-}
-
 pub const CONFIGURATION: usize = 0;
 
 pub const LOCAL_HIGH: usize = 2;
@@ -79,26 +72,22 @@ pub fn known(reg: u8) -> bool
 }
 
 // A row's place, where the test holds.
-fn placed(on: bool, place: u8) -> Position
+fn placed(on: bool, place: u8) -> Option<u8>
     ensures { result ≡ placed_of on place }
 {
-    if on & (place < page::NOWHERE) {
-        Position::At(place)
-    } else {
-        Position::Nowhere
-    }
+    (on & (place < page::NOWHERE)).then_some(place)
 }
 
-// Of the register that is written at `reg`.
-pub fn write_position(reg: u8) -> Position
+// Where the byte of the register that is written at `reg` stands among the fourteen.
+pub fn write_position(reg: u8) -> Option<u8>
     ensures { result ≡ write_position_of reg }
 {
     let row = page::row_of(reg);
     placed(row.0 & page::writing(reg) != 0, row.1)
 }
 
-// Of the register that is read at `reg`.
-pub fn read_position(reg: u8) -> Position
+// Where the byte of the register that is read at `reg` stands among the fourteen.
+pub fn read_position(reg: u8) -> Option<u8>
     ensures { result ≡ read_position_of reg }
 {
     let row = page::row_of(reg);

@@ -10,19 +10,19 @@ unfolding get_of
 returns-then-not-readable c = rw (c.silent.ensures, ← c.readable.ensures, c.if-not-readable.true)
 
 pub bounds-d-i : goal.bounds-d-i
-bounds-d-i c = read_below _ _ (sym c.read_position-p.ensures ∙ c.in-At.is)
+bounds-d-i c = read_below _ _ (sym c.read_position.ensures ∙ c.in-Some.is)
 
-pub returns-in-At : goal.returns-in-At
+pub returns-in-Some : goal.returns-in-Some
 unfolding get_of value_of setting_of
-returns-in-At c =
-    let there = sym c.read_position-p.ensures ∙ c.in-At.is in
+returns-in-Some c =
+    let there = sym c.read_position.ensures ∙ c.in-Some.is in
     let settable = sym (settable_position _) ∙ ap somewhere there in
     let may = sym c.readable.ensures ∙ c.if-not-readable.false in
     rw (c.answered.ensures, c.pointed-n.ensures, may, settable, there, settable_read _ _ settable)
 
-pub returns-in-Nowhere : goal.returns-in-Nowhere
+pub returns-in-None : goal.returns-in-None
 unfolding get_of value_of read_only_value_of low_read_of
-returns-in-Nowhere c =
-    let none = sym c.read_position-p.ensures ∙ c.in-Nowhere.is in
+returns-in-None c =
+    let none = sym c.read_position.ensures ∙ c.in-None.is in
     let may = sym c.readable.ensures ∙ c.if-not-readable.false in
     rw (c.read_only.ensures, c.pointed-n.ensures, may, sym (settable_position _) ∙ ap somewhere none)

@@ -8,18 +8,18 @@ unfolding put_of
 returns-then-not-writable c = rw (c.silent.ensures, ← c.writable.ensures, c.if-not-writable.true)
 
 pub stored-requires : goal.stored-requires
-stored-requires c = sym c.write_position-p.ensures ∙ c.in-At.is
+stored-requires c = sym c.write_position.ensures ∙ c.in-Some.is
 
-pub returns-in-At : goal.returns-in-At
+pub returns-in-Some : goal.returns-in-Some
 unfolding put_of
-returns-in-At c =
+returns-in-Some c =
     let may = sym c.writable.ensures ∙ c.if-not-writable.false in
-    let other = write_not_shot _ _ (sym c.write_position-p.ensures ∙ c.in-At.is) in
+    let other = write_not_shot _ _ (sym c.write_position.ensures ∙ c.in-Some.is) in
     rw (c.answered.ensures, c.stored.ensures, may, other)
 
-pub returns-in-Nowhere : goal.returns-in-Nowhere
+pub returns-in-None : goal.returns-in-None
 unfolding put_of
-returns-in-Nowhere c =
+returns-in-None c =
     let may = sym c.writable.ensures ∙ c.if-not-writable.false in
-    let none = sym c.write_position-p.ensures ∙ c.in-Nowhere.is in
-    rw (c.answered-in-Nowhere.ensures, c.fired.ensures, may, write_shot _ may none)
+    let none = sym c.write_position.ensures ∙ c.in-None.is in
+    rw (c.answered-in-None.ensures, c.fired.ensures, may, write_shot _ may none)
