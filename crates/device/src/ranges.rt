@@ -19,13 +19,7 @@ pub fn variant(v: u8) -> bool
 pub fn all(tests: &[bool]) -> bool
     ensures { result ≡ all_true tests.now }
 {
-    let mut so = true;
-    let mut i = 0;
-    while i < tests.len() {
-        so = so & tests[i];
-        i = i + 1;
-    }
-    so
+    tests.iter().all(|&test| test)
 }
 
 // The byte has no bit but those kept.
@@ -70,35 +64,24 @@ pub fn ranged(d: Device) -> bool
 }
 
 // Addresses at most 7Fh, a remote low byte that is a multiple of 32.
+#[tactic(auto, unfolding(crate::specs::Ranges::operands_of))]
 pub fn operands(e: Event) -> bool
     ensures { result ≡ operands_of e }
 {
     match e {
-        Event::Write(address, _, _) => address <= HIGHEST_ADDRESS,
-        Event::Read(address, _) => address <= HIGHEST_ADDRESS,
-        Event::Send(address, _) => address <= HIGHEST_ADDRESS,
-        Event::Receive(address) => address <= HIGHEST_ADDRESS,
-        Event::Convert(_, _, low) => low % 32 == 0,
-        Event::Open(_) => true,
-        Event::PowerOn => true,
-        Event::ConvertSecond(_, _, low) => low % 32 == 0,
-        Event::OpenSecond(_) => true,
+        Event::Write(address, _, _)
+        | Event::Read(address, _)
+        | Event::Send(address, _)
+        | Event::Receive(address) => address <= HIGHEST_ADDRESS,
+        Event::Convert(_, _, low) | Event::ConvertSecond(_, _, low) => low % 32 == 0,
+        Event::Open(_) | Event::PowerOn | Event::OpenSecond(_) => true,
     }
 }
 
 // Kinds 08 and 09.
+#[tactic(auto, unfolding(crate::specs::Ranges::second_of))]
 pub fn second(e: Event) -> bool
     ensures { result ≡ second_of e }
 {
-    match e {
-        Event::Write(_, _, _) => false,
-        Event::Read(_, _) => false,
-        Event::Send(_, _) => false,
-        Event::Receive(_) => false,
-        Event::Convert(_, _, _) => false,
-        Event::Open(_) => false,
-        Event::PowerOn => false,
-        Event::ConvertSecond(_, _, _) => true,
-        Event::OpenSecond(_) => true,
-    }
+    matches!(e, Event::ConvertSecond(_, _, _) | Event::OpenSecond(_))
 }
