@@ -33,7 +33,7 @@ EDITS = ROOT / "misreadings"
 LIST = ROOT / "docs/MISREADINGS.md"
 HEAD = re.compile(r"# (.+); noticed by: (.+)")
 PLACE = re.compile(r"(\w+/(?:specs|proofs)/[\w/]+\.antt): (.+)")
-FUNCTION = re.compile(r"(?:pub(?:\([^)]*\))? )?(?:extern \"C\" )?fn \w+")
+FUNCTION = re.compile(r"impl\b|(?:pub(?:\([^)]*\))? )?(?:extern \"C\" )?fn \w+")
 DECLARED = re.compile(r"^ *(?!let |module |use |--|→)(?:(?:abbrev|unfoldable) )?(?:pub )?(?:(?:record|data) )?([^\s:(){}]+)(?: [^:\n]*)? :", re.M)
 ERROR = re.compile(r"^(\S+?):(\d+):\d+: error(?:\[[^]]*\])?: (?:`([^`]*)`: )?(.*)$", re.M)
 # the files of a function's proof, each in a folder of its own below proofs/

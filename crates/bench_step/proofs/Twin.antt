@@ -12,9 +12,9 @@ use Rattle.device.specs.declared.Event.{Event}
 use lib.ListN.{get_or}
 use Rattle.device.specs.Ranges.{variant_of, ranged_of, operands_of, second_of}
 use Rattle.device.specs.Step.{step_of}
-use Rattle.record.specs.declared.Record.TheVariants.{Valid, Refused}
-use Rattle.record.specs.declared.Refusal.{Refusal}
-use Rattle.record.specs.declared.Refusal.TheVariants.{Kind, Operand}
+use Rattle.std.specs.Prelude.{Ok, Err}
+use Rattle.record.specs.declared.refusal.Refusal.{Refusal}
+use Rattle.record.specs.declared.refusal.Refusal.TheVariants.{Kind, Operand}
 use Rattle.record.specs.Record.{decode_of, code_of, encode_of}
 use Rattle.record.proofs.RoundTrip.{reads_back, reads_refused, reads_unknown}
 use Rattle.bench_step.specs.declared.Answer.{Answer}
@@ -24,11 +24,11 @@ module _ (d : Device) (kind a b c : ℕ) where
   abbrev in_range : Bool
   in_range = variant_of d.variant && ranged_of d
 
-  pub is_step : (e : Event) → decode_of 1 kind a b c ≡ Valid e → step_bytes_of d kind a b c ≡ taken_of (step_of d e)
+  pub is_step : (e : Event) → decode_of 1 kind a b c ≡ Ok e → step_bytes_of d kind a b c ≡ taken_of (step_of d e)
   unfolding step_bytes_of step_of
   is_step e q = by_test in_range (λ r. simp (r, q)) (λ r. simp r)
 
-  pub is_refused : (why : Refusal) → decode_of 1 kind a b c ≡ Refused why → step_bytes_of d kind a b c ≡ refusal_of d (cond in_range (code_of (Refused why)) 8)
+  pub is_refused : (why : Refusal) → decode_of 1 kind a b c ≡ Err why → step_bytes_of d kind a b c ≡ refusal_of d (cond in_range (code_of (Err why)) 8)
   unfolding step_bytes_of
   is_refused why q = by_test in_range (λ r. simp (r, q)) (λ r. simp r)
 

@@ -8,8 +8,8 @@ use Rattle.device.specs.declared.Stepped.{Stepped}
 use Rattle.device.specs.Bus.{powered_of, zero_device}
 use Rattle.device.specs.Ranges.{variant_of, ranged_of}
 use Rattle.device.specs.Step.{step_of}
-use Rattle.record.specs.declared.Record.{Record}
-use Rattle.record.specs.declared.Record.TheVariants.{Valid, Refused}
+use Rattle.record.specs.Record.{Record}
+use Rattle.std.specs.Prelude.{Ok, Err}
 use Rattle.record.specs.Record.{decode_of, code_of}
 use Rattle.bench_step.specs.declared.Taken.{Taken}
 
@@ -23,8 +23,8 @@ taken_of s = record { device = s.device; answer = record { code = s.code; first 
 
 -- 3 and 4 of the record, or the step
 abbrev pub on_record_of : Device → Record → Taken
-on_record_of d (Valid e) = taken_of (step_of d e)
-on_record_of d (Refused why) = refusal_of d (code_of (Refused why))
+on_record_of d (Ok e) = taken_of (step_of d e)
+on_record_of d (Err why) = refusal_of d (code_of (Err why))
 
 -- 8 (for a variant of 0 too), then 3, then 4, else the step; request c: read under a device count of 1, so that 08 and 09 are 3
 unfoldable pub step_bytes_of : Device → ℕ → ℕ → ℕ → ℕ → Taken

@@ -6,7 +6,6 @@ ghost use Rattle.device.specs.Ranges.{variant_of, ranged_of};
 ghost use Rattle.bench_step.specs.BenchStep.{refusal_of, step_bytes_of, power_on_of};
 
 use device::Device;
-use record::Record;
 
 // A step's code and its two answer bytes.
 #[repr(C)]
@@ -51,9 +50,9 @@ fn refused(d: Device, code: u8) -> Taken
 pub fn step_bytes(d: Device, kind: u8, a: u8, b: u8, c: u8) -> Taken
     ensures { result ≡ step_bytes_of d kind a b c }
 {
-    let r = record::decode(1, kind, a, b, c);
-    let Record::Valid(e) = r else {
-        return refused(d, record::code(r));
+    let e = match record::decode(1, kind, a, b, c) {
+        Ok(e) => e,
+        Err(why) => return refused(d, u8::from(why)),
     };
     let s = device::step(d, e);
     let device = s.device;

@@ -9,32 +9,37 @@ use lib.ListN.{length, get_or}
 use Rattle.laws.proofs.Choices.{by_test}
 use Rattle.device.specs.declared.Event.{Event}
 use Rattle.device.specs.Ranges.{operands_of}
-use Rattle.record.specs.declared.Record.TheVariants.{Valid, Refused}
-use Rattle.record.specs.declared.Refusal.{Refusal}
-use Rattle.record.specs.declared.Refusal.TheVariants.{Kind, Operand}
+use Rattle.std.specs.Prelude.{Ok, Err}
+use Rattle.record.specs.declared.refusal.Refusal.{Refusal}
+use Rattle.record.specs.declared.refusal.Refusal.TheVariants.{Kind, Operand}
 use Rattle.record.specs.Record.{decode_of, code_of, encode_of}
-use Rattle.record.specs.Writer.{write_event_of, refuses, WroteEvent}
+use Rattle.record.specs.Writer.{write_event_of, refuses, write_code_of, of_record, WroteEvent}
 use Rattle.record.proofs.RoundTrip.{reads_back, reads_refused, only_those}
 use Rattle.record.proofs.Writings.{one_writing}
 use Rattle.bench_write.specs.BenchWrite.{write_bytes_of, WroteBytes}
 
 module _ (kind a b c room : ℕ) where
-  pub is_event : (e : Event) → decode_of 2 kind a b c ≡ Valid e → write_bytes_of kind a b c room ≡ write_event_of e room
+  pub is_event : (e : Event) → decode_of 2 kind a b c ≡ Ok e → write_bytes_of kind a b c room ≡ write_event_of e room
   unfolding write_bytes_of write_event_of code_of
   is_event e q = let told = only_those 2 kind a b c e q in rw (q, told.operands, ← told.bytes)
 
-  pub is_refused : (why : Refusal) → decode_of 2 kind a b c ≡ Refused why → write_bytes_of kind a b c room ≡ refuses (code_of (Refused why))
+  pub is_refused : (why : Refusal) → decode_of 2 kind a b c ≡ Err why → write_bytes_of kind a b c room ≡ refuses (code_of (Err why))
   unfolding write_bytes_of code_of
   is_refused Kind q = rw q
   is_refused Operand q = rw q
 
 -- ---- what the call returns
 
+pub same_code : (why : Refusal) → write_code_of (Err (of_record why)) ≡ code_of (Err why)
+unfolding code_of
+same_code Kind = refl
+same_code Operand = refl
+
 module _ (kind a b c : ℕ) {entry : List ℕ} where
-  pub refused : (why : Refusal) → decode_of 2 kind a b c ≡ Refused why → WroteBytes kind a b c (code_of (Refused why)) entry entry
+  pub refused : (why : Refusal) → decode_of 2 kind a b c ≡ Err why → WroteBytes kind a b c (code_of (Err why)) entry entry
   refused why q = rw (is_refused kind a b c (length entry) why q) (record { told = refl; buffer = refl })
 
-  pub written : {code : ℕ} {exit : List ℕ} (e : Event) → decode_of 2 kind a b c ≡ Valid e → WroteEvent e code entry exit → WroteBytes kind a b c code entry exit
+  pub written : {code : ℕ} {exit : List ℕ} (e : Event) → decode_of 2 kind a b c ≡ Ok e → WroteEvent e code entry exit → WroteBytes kind a b c code entry exit
   written e q w = rw (is_event kind a b c (length entry) e q) w
 
 pub is_the_writer : (e : Event) (room : ℕ)

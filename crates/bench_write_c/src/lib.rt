@@ -8,7 +8,7 @@ ghost use Rattle.bench_write.specs.BenchWrite.{WroteBytes};
 pub extern "C" fn lm89_write_event(kind: u8, a: u8, b: u8, c: u8, room: &mut [u8]) -> u8
     ensures { WroteBytes kind a b c result room.old room.new }
 {
-    bench_write::lm89_write_event(kind, a, b, c, room)
+    record::write_code(bench_write::write_event(kind, a, b, c, room))
 }
 
 // The header of a capture of one device to the front of the room: 2, then 7, else 0.
@@ -16,7 +16,7 @@ pub extern "C" fn lm89_write_event(kind: u8, a: u8, b: u8, c: u8, room: &mut [u8
 pub extern "C" fn lm89_write_header(variant: u8, count: u32, room: &mut [u8]) -> u8
     ensures { WroteHeader variant count result room.old room.new }
 {
-    bench_write::lm89_write_header(variant, count, room)
+    record::write_code(bench_write::write_header(variant, count, room))
 }
 
 // The header of a capture of two devices: 2, then 9, then 7, else 0.
@@ -24,5 +24,5 @@ pub extern "C" fn lm89_write_header(variant: u8, count: u32, room: &mut [u8]) ->
 pub extern "C" fn lm89_write_header_2(first: u8, second: u8, count: u32, room: &mut [u8]) -> u8
     ensures { WroteHeader2 first second count result room.old room.new }
 {
-    bench_write::lm89_write_header_2(first, second, count, room)
+    record::write_code(bench_write::write_header_2(first, second, count, room))
 }

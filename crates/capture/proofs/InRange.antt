@@ -13,9 +13,9 @@ use Rattle.laws.proofs.Choices.{cond_ind, by_test}
 use Rattle.device.specs.Bus.{powered_of}
 use Rattle.device.specs.Ranges.{all_true, variant_of}
 use Rattle.device.proofs.Tests.{each, of_each}
-use Rattle.record.specs.declared.Record.{Record}
-use Rattle.record.specs.declared.Record.TheVariants.{Valid, Refused}
-use Rattle.record.specs.declared.Refusal.TheVariants.{Kind, Operand}
+use Rattle.record.specs.Record.{Record}
+use Rattle.std.specs.Prelude.{Ok, Err}
+use Rattle.record.specs.declared.refusal.Refusal.TheVariants.{Kind, Operand}
 use Rattle.record.specs.Record.{decode_of, code_of}
 use Rattle.pair.specs.declared.Bus.{Bus}
 use Rattle.pair.specs.Bus.{placed_of, counted_bus, count_place, header_length, answers_of}
@@ -245,11 +245,11 @@ module _ (s : Reader) (b : ℕ) (small : b < 256) (h : ranges_of s ≡ true) whe
 
   judged_ranges : s.head ≡ header_length_of s → s.done < s.count → (q : Record) → ranges_of (judged_of s q).reader ≡ true
   unfolding code_of
-  judged_ranges z l (Valid e) =
+  judged_ranges z l (Ok e) =
       let same = same_count s.bus e in
       done_ranges (answers_of s.bus e).bus (omega arith) l (omega arith) (bus_kept s.head s.bus e (omega (arith, z)) r.bus)
-  judged_ranges z l (Refused Kind) = hold_ranges s 3 h refl
-  judged_ranges z l (Refused Operand) = hold_ranges s 4 h refl
+  judged_ranges z l (Err Kind) = hold_ranges s 3 h refl
+  judged_ranges z l (Err Operand) = hold_ranges s 4 h refl
 
   Kept : Turn → Type 0
   Kept t = ranges_of t.reader ≡ true

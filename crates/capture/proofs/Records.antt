@@ -15,10 +15,10 @@ use Rattle.device.specs.declared.Device.{Device}
 use Rattle.device.specs.declared.Outcome.{Outcome}
 use Rattle.device.specs.declared.Event.{Event}
 use Rattle.device.specs.Step.{effect_of, answer_of}
-use Rattle.record.specs.declared.Record.{Record}
-use Rattle.record.specs.declared.Record.TheVariants.{Valid, Refused}
-use Rattle.record.specs.declared.Refusal.{Refusal}
-use Rattle.record.specs.declared.Refusal.TheVariants.{Kind, Operand}
+use Rattle.record.specs.Record.{Record}
+use Rattle.std.specs.Prelude.{Ok, Err}
+use Rattle.record.specs.declared.refusal.Refusal.{Refusal}
+use Rattle.record.specs.declared.refusal.Refusal.TheVariants.{Kind, Operand}
 use Rattle.record.specs.Record.{decode_of, code_of}
 use Rattle.pair.specs.declared.Bus.{Bus}
 use Rattle.pair.specs.declared.hand.Hand.{Hand}
@@ -83,13 +83,13 @@ module _ (s : Reader) (w : AtFourth s) (c : ℕ) where
   judged : turn_of s c ≡ judged_of s record_at
   judged = judged_turn s c w.held w.head w.counted (omega (arith, w.carried))
 
-  refuses : (why : Refusal) → record_at ≡ Refused why → turn_of s c ≡ quiet_of (hold_of s (code_of (Refused why)))
+  refuses : (why : Refusal) → record_at ≡ Err why → turn_of s c ≡ quiet_of (hold_of s (code_of (Err why)))
   refuses why q = judged ∙ ap (judged_of s) q
 
-  takes : (e : Event) → record_at ≡ Valid e → turn_of s c ≡ answered_of s (answers_of s.bus e)
+  takes : (e : Event) → record_at ≡ Ok e → turn_of s c ≡ answered_of s (answers_of s.bus e)
   takes e q = judged ∙ ap (judged_of s) q
 
-lasting : (why : Refusal) → code_of (Refused why) ≡ 0 → ⊥
+lasting : (why : Refusal) → code_of (Err why) ≡ 0 → ⊥
 unfolding code_of
 lasting Kind z = omega arith
 lasting Operand z = omega arith
@@ -99,16 +99,16 @@ module _ {o : Out} {input entry answers : List ℕ} {s : Reader} {at written : �
   abbrev byte : ℕ
   byte = get_or input at 0
 
-  pub ends_refused : (why : Refusal) → record_at s w byte ≡ Refused why
-      → Meets o (record { code = code_of (Refused why); consumed = at; written = written; reader = hold_of s (code_of (Refused why)) }) entry answers
+  pub ends_refused : (why : Refusal) → record_at s w byte ≡ Err why
+      → Meets o (record { code = code_of (Err why); consumed = at; written = written; reader = hold_of s (code_of (Err why)) }) entry answers
   ends_refused why q = refused g l (sym (refuses s w byte why q)) (lasting why)
 
-  pub ends_full : (e : Event) → record_at s w byte ≡ Valid e → length answers - written < 2
+  pub ends_full : (e : Event) → record_at s w byte ≡ Ok e → length answers - written < 2
       → Meets o (record { code = 7; consumed = at; written = written; reader = s }) entry answers
   ends_full e q n = full g l (sym (takes s w byte e q)) w.held refl n
 
   -- a record taken, its pair behind the answers
-  pub stepped : (e : Event) {after : List ℕ} → byte < 256 → record_at s w byte ≡ Valid e → 2 ≤ length answers - written
+  pub stepped : (e : Event) {after : List ℕ} → byte < 256 → record_at s w byte ≡ Ok e → 2 ≤ length answers - written
       → after ≡ take written answers ++ ((answers_of s.bus e).first ∷ (answers_of s.bus e).second ∷ drop 2 (drop written answers))
       → Going o input entry after (between_of s (s.done + 1) (answers_of s.bus e).bus) (at + 1) (written + 2)
   stepped e small q n k =
@@ -166,7 +166,7 @@ pub record Running (s : Reader) (input before : List ℕ) (from start : ℕ)
     (answers : List ℕ) (kind a b : ℕ) (device : Device) (done at written left : ℕ) : Type 0 where
   pub waits : AtFourth s
   pub onward : Onward input before s from start answers (carrying_of s done (bus_with s device) kind a b) at written
-  pub own : (c : ℕ) (e : Event) → decode_of s.bus.devices kind a b c ≡ Valid e → Laid s.bus (hand_at s) device e
+  pub own : (c : ℕ) (e : Event) → decode_of s.bus.devices kind a b c ≡ Ok e → Laid s.bus (hand_at s) device e
   pub once : (hand_at s).restart ≡ true → left ≡ 1
   pub forward : from ≤ at
   pub some : 1 ≤ left
@@ -243,8 +243,8 @@ module _ {s : Reader} {input before : List ℕ} {from start : ℕ} {answers : Li
   lent : written + 2 ≤ length answers
   lent = omega (arith, r.some, r.room)
 
-  pub run_refused : (why : Refusal) → decode_of s.bus.devices kind a b (get_or input at 0) ≡ Refused why
-      → Took input before s from start answers (report_of (code_of (Refused why)) at written (hold_of state (code_of (Refused why))))
+  pub run_refused : (why : Refusal) → decode_of s.bus.devices kind a b (get_or input at 0) ≡ Err why
+      → Took input before s from start answers (report_of (code_of (Err why)) at written (hold_of state (code_of (Err why))))
   run_refused why q = record {
     onward = λ z. absurd (lasting why z);
     forward = λ z. absurd (lasting why z);
@@ -256,7 +256,7 @@ module _ {s : Reader} {input before : List ℕ} {from start : ℕ} {answers : Li
   no_restart n = by_test (hand_at s).restart (λ t. absurd (omega (arith, n, r.once t))) (λ f. f)
 
   -- a record that is an event, its pair laid behind the answers
-  module _ (small : (i : ℕ) → get_or input i 0 < 256) (e : Event) (q : decode_of s.bus.devices kind a b (get_or input at 0) ≡ Valid e)
+  module _ (small : (i : ℕ) → get_or input i 0 < 256) (e : Event) (q : decode_of s.bus.devices kind a b (get_or input at 0) ≡ Ok e)
       (o : Outcome) (did : o ≡ effect_of device e) {after : List ℕ}
       (laid : after ≡ take written answers ++ (bit_or (answer_of o) (hand_at s).lines ∷ o.byte ∷ drop 2 (drop written answers))) where
     abbrev put : Bus

@@ -5,8 +5,8 @@ use Rattle.std.specs.Prelude.{List, [], ◌∷◌, ◌++◌, length, get_or, set
 use Rattle.registers.specs.Page.{address_of}
 use Rattle.device.specs.Bus.{powered_of}
 use Rattle.device.specs.Ranges.{all_true, variant_of}
-use Rattle.record.specs.declared.Record.{Record}
-use Rattle.record.specs.declared.Record.TheVariants.{Valid, Refused}
+use Rattle.record.specs.Record.{Record}
+use Rattle.std.specs.Prelude.{Ok, Err}
 use Rattle.record.specs.Record.{decode_of, code_of}
 use Rattle.pair.specs.declared.Bus.{Bus}
 use Rattle.pair.specs.Bus.{zero_bus, placed_of, counted_bus, first_address, Answered, answers_of, count_place, header_length}
@@ -166,8 +166,8 @@ abbrev pub answered_of : Reader → Answered → Turn
 answered_of s a = record { reader = between_of s (s.done + 1) a.bus; pair = true; first = a.first; second = a.second }
 
 abbrev pub judged_of : Reader → Record → Turn
-judged_of s (Valid e) = answered_of s (answers_of s.bus e)
-judged_of s (Refused why) = quiet_of (hold_of s (code_of (Refused why)))
+judged_of s (Ok e) = answered_of s (answers_of s.bus e)
+judged_of s (Err why) = quiet_of (hold_of s (code_of (Err why)))
 
 -- a record is judged at its fourth byte, under the device count
 unfoldable pub record_of : Reader → ℕ → Turn

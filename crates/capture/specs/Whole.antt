@@ -6,8 +6,8 @@ use Rattle.registers.specs.Page.{address_of}
 use Rattle.device.specs.declared.Event.{Event}
 use Rattle.device.specs.Bus.{powered_of, zero_device}
 use Rattle.device.specs.Ranges.{variant_of}
-use Rattle.record.specs.declared.Record.{Record}
-use Rattle.record.specs.declared.Record.TheVariants.{Valid, Refused}
+use Rattle.record.specs.Record.{Record}
+use Rattle.std.specs.Prelude.{Ok, Err}
 use Rattle.record.specs.Record.{code_of}
 use Rattle.record.specs.Fours.{Quad, quads, over, quad_of}
 use Rattle.pair.specs.declared.Bus.{Bus}
@@ -51,8 +51,8 @@ recording n k bus l = with_carried (with_done (heading (header_length bus) n bus
 
 -- an event is stepped; a refused record is told by its code
 abbrev pub on_record : Record → (Event → Whole) → (ℕ → Whole) → Whole
-on_record (Valid e) step refuse = step e
-on_record (Refused why) step refuse = refuse (code_of (Refused why))
+on_record (Ok e) step refuse = step e
+on_record (Err why) step refuse = refuse (code_of (Err why))
 
 -- the records in order, then the bytes over, k of n done; a refused record leaves its first three bytes consumed and carried; 5 for a
 -- byte past the last counted record; the finishing code is 0 at the counted end exactly

@@ -9,7 +9,6 @@ use super::{Fed, Reader, report, taking};
 use device::Device;
 use pair::hand;
 use pair::hand::Hand;
-use record::Record;
 
 // The pair to the front of the room that is lent.
 fn put_pair(room: &mut [u8], first: u8, second: u8)
@@ -60,10 +59,10 @@ pub(crate) fn no_room(s: Reader, c: u8, at: usize, written: usize) -> Fed
     let q = s.bytes;
     let bus = s.bus;
     let r = record::decode(bus.devices, q[0], q[1], q[2], c);
-    let Record::Valid(_) = r else {
-        return refused(s, record::code(r), at, written);
-    };
-    report(7, at, written, s)
+    match r {
+        Ok(_) => report(7, at, written, s),
+        Err(why) => refused(s, u8::from(why), at, written),
+    }
 }
 
 fn lesser(a: usize, b: usize) -> usize
@@ -94,10 +93,9 @@ pub(crate) fn run(s: Reader, input: &[u8], from: usize, answers: &mut [u8], star
     requires { Ready s input.now from answers.old start }
     ensures { Took input.now answers.old s from start answers.new result }
 {
-    let q = s.bytes;
-    let mut kind = q[0];
-    let mut a = q[1];
-    let mut b = q[2];
+    let mut kind = s.bytes[0];
+    let mut a = s.bytes[1];
+    let mut b = s.bytes[2];
     let h = hand::taken(s.bus, kind, a);
     let mut device = pair::picked(s.bus, h.second);
     let mut done = s.done;
@@ -105,10 +103,12 @@ pub(crate) fn run(s: Reader, input: &[u8], from: usize, answers: &mut [u8], star
     let mut written = start;
     let mut left = upto(h.restart, s, input.len() - from, answers.len() - start);
     loop {
-        let r = record::decode(h.devices, kind, a, b, input[at]);
-        let Record::Valid(e) = r else {
-            let n = carrying(s, done, h, device, kind, a, b);
-            return refused(n, record::code(r), at, written);
+        let e = match record::decode(h.devices, kind, a, b, input[at]) {
+            Ok(e) => e,
+            Err(why) => {
+                let n = carrying(s, done, h, device, kind, a, b);
+                return refused(n, u8::from(why), at, written);
+            }
         };
         let o = device::effect(device, e);
         put_pair(&mut answers[written..], device::answer(o) | h.lines, o.byte);

@@ -16,10 +16,10 @@ use Rattle.device.specs.declared.Event.TheVariants.{Write, Read, Send, Receive, 
 use Rattle.device.specs.Bus.{powered_of, zero_device}
 use Rattle.device.specs.Ranges.{variant_of, second_of}
 use Rattle.device.specs.Step.{effect_of, answer_of}
-use Rattle.record.specs.declared.Record.{Record}
-use Rattle.record.specs.declared.Record.TheVariants.{Valid, Refused}
-use Rattle.record.specs.declared.Refusal.{Refusal}
-use Rattle.record.specs.declared.Refusal.TheVariants.{Kind, Operand}
+use Rattle.record.specs.Record.{Record}
+use Rattle.std.specs.Prelude.{Ok, Err}
+use Rattle.record.specs.declared.refusal.Refusal.{Refusal}
+use Rattle.record.specs.declared.refusal.Refusal.TheVariants.{Kind, Operand}
 use Rattle.record.specs.Record.{code_of, decode_of}
 use Rattle.record.specs.Fours.{quads, over}
 use Rattle.pair.specs.declared.Bus.{Bus}
@@ -64,9 +64,9 @@ either false r = refl
 
 pub decode_before : (kind a b c : ℕ) → decode_of 1 kind a b c ≡ before.decode_of kind a b c
 unfolding decode_of before.decode_of
-decode_before kind a b c = rw (either (eqb kind 9) (Refused Kind), either (eqb kind 8) (Refused Kind))
+decode_before kind a b c = rw (either (eqb kind 9) (Err Kind), either (eqb kind 8) (Err Kind))
 
-refusal_before : (why : Refusal) → code_of (Refused why) ≡ before.code_of (Refused why)
+refusal_before : (why : Refusal) → code_of (Err why) ≡ before.code_of (Err why)
 unfolding code_of before.code_of
 refusal_before Kind = refl
 refusal_before Operand = refl
@@ -99,9 +99,9 @@ record_before : (r : Record) → OfThatTime r
     → (step : Event → Whole) (then : Event → before.Whole) → ((e : Event) → second_of e ≡ false → step e ≡ now (then e))
     → (refuse : ℕ → Whole) (refused : ℕ → before.Whole) → ((code : ℕ) → refuse code ≡ now (refused code))
     → on_record r step refuse ≡ now (before.on_record r then refused)
-record_before (Valid e) h step then steps refuse refused refuses = steps e h
-record_before (Refused why) h step then steps refuse refused refuses =
-    ap refuse (refusal_before why) ∙ refuses (before.code_of (Refused why))
+record_before (Ok e) h step then steps refuse refused refuses = steps e h
+record_before (Err why) h step then steps refuse refused refuses =
+    ap refuse (refusal_before why) ∙ refuses (before.code_of (Err why))
 
 records_before : (n k : ℕ) (d : Device) (xs : List ℕ)
     → records_of n k (alone d) (quads xs) (over xs) ≡ now (before.records_of n k d (before.quads xs) (before.over xs))

@@ -3,15 +3,15 @@
 use Rattle.std.specs.Prelude.{ℕ, ◌≡◌, false, cond, List, [], ◌∷◌, eqb}
 use Rattle.device.specs.Bus.{zero_device}
 use Rattle.device.specs.Ranges.{second_of}
-use Rattle.record.specs.declared.Record.{Record}
-use Rattle.record.specs.declared.Record.TheVariants.{Valid, Refused}
+use Rattle.record.specs.Record.{Record}
+use Rattle.std.specs.Prelude.{Ok, Err}
 use Rattle.capture.specs.Whole.{whole_of}
 use Rattle.capture_before.specs.BeforePair as before
 
 -- a record is refused, or an event of that time
 abbrev pub OfThatTime : Record → Type 0
-OfThatTime (Valid e) = second_of e ≡ false
-OfThatTime (Refused why) = Unit {0}
+OfThatTime (Ok e) = second_of e ≡ false
+OfThatTime (Err why) = Unit {0}
 
 -- the first byte is not a device count of 2: it is 1, or a count that is refused, or there is none
 abbrev pub NotTwo : List ℕ → Type 0

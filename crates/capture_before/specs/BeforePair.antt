@@ -12,21 +12,21 @@ use Rattle.device.specs.declared.Event.TheVariants.{Write, Read, Send, Receive, 
 use Rattle.device.specs.Bus.{powered_of, zero_device}
 use Rattle.device.specs.Ranges.{all_true, variant_of, operands_of}
 use Rattle.device.specs.Step.{effect_of, answer_of}
-use Rattle.record.specs.declared.Record.{Record}
-use Rattle.record.specs.declared.Record.TheVariants.{Valid, Refused}
-use Rattle.record.specs.declared.Refusal.TheVariants.{Kind, Operand}
+use Rattle.record.specs.Record.{Record}
+use Rattle.std.specs.Prelude.{Ok, Err}
+use Rattle.record.specs.declared.refusal.Refusal.TheVariants.{Kind, Operand}
 
 -- ---- from crate record: Record
 
 -- the codes of the cases: 3 for a kind that is not 01 to 07, 4 for an operand that breaks the table
 unfoldable pub code_of : Record → ℕ
-code_of (Valid e) = 0
-code_of (Refused Kind) = 3
-code_of (Refused Operand) = 4
+code_of (Ok e) = 0
+code_of (Err Kind) = 3
+code_of (Err Operand) = 4
 
 -- the event, if its operands are good
 abbrev pub admit_of : Bool → Event → Record
-admit_of good e = cond good (Valid e) (Refused Operand)
+admit_of good e = cond good (Ok e) (Err Operand)
 
 -- the operands that an event has are in the table, and the others are 0
 abbrev pub good_of : Event → List ℕ → Bool
@@ -42,7 +42,7 @@ decode_of kind a b c =
     (cond (eqb kind 0x05) (admit_of (good_of (Convert a b c) []) (Convert a b c))
     (cond (eqb kind 0x06) (admit_of (good_of (Open a) (b ∷ c ∷ [])) (Open a))
     (cond (eqb kind 0x07) (admit_of (good_of PowerOn (a ∷ b ∷ c ∷ [])) PowerOn)
-    (Refused Kind)))))))
+    (Err Kind)))))))
 
 -- ---- from crate capture: Sensor
 
@@ -201,8 +201,8 @@ quad_of q = decode_of q.kind q.a q.b q.c
 
 -- an event is stepped; a refused record is told by its code
 abbrev pub on_record : Record → (Event → Whole) → (ℕ → Whole) → Whole
-on_record (Valid e) step refuse = step e
-on_record (Refused why) step refuse = refuse (code_of (Refused why))
+on_record (Ok e) step refuse = step e
+on_record (Err why) step refuse = refuse (code_of (Err why))
 
 -- the records in order, then the bytes over, k of n done; a refused record leaves its first three bytes consumed and carried; 5 for a
 -- byte past the last counted record; the finishing code is 0 at the

@@ -11,9 +11,9 @@ use lib.Dec.{ltb, eqb}
 use lib.ListN.{length, get_or}
 use borrow.Author.Tests.{leb-true, ltb-true, ltb-false, eqb-true, eqb-false}
 use Rattle.laws.proofs.Choices.{clash, cond_ind, by_test}
-use Rattle.record.specs.declared.Record.{Record}
-use Rattle.record.specs.declared.Record.TheVariants.{Valid, Refused}
-use Rattle.record.specs.declared.Refusal.TheVariants.{Kind, Operand}
+use Rattle.record.specs.Record.{Record}
+use Rattle.std.specs.Prelude.{Ok, Err}
+use Rattle.record.specs.declared.refusal.Refusal.TheVariants.{Kind, Operand}
 use Rattle.record.specs.Record.{decode_of, code_of}
 use Rattle.capture.specs.declared.Reader.{Reader}
 use Rattle.capture.specs.Reader.{Turn, fresh_of, header_length_of, header_done, in_header, hold_of, head_of, judged_of, record_of, turn_of, ranges_of}
@@ -56,9 +56,9 @@ module _ (s : Reader) (b : ℕ) (few : s.carried ≤ 3) where
 
     judged_counted : 3 ≤ s.carried → (d : Record) → CountedBy (judged_of s d)
     unfolding code_of
-    judged_counted h (Valid e) = more none (omega arith) (omega arith)
-    judged_counted h (Refused Kind) = same (λ z. omega arith) (omega arith) few
-    judged_counted h (Refused Operand) = same (λ z. omega arith) (omega arith) few
+    judged_counted h (Ok e) = more none (omega arith) (omega arith)
+    judged_counted h (Err Kind) = same (λ z. omega arith) (omega arith) few
+    judged_counted h (Err Operand) = same (λ z. omega arith) (omega arith) few
 
   turn_counted : CountedBy (turn_of s b)
   unfolding turn_of record_of

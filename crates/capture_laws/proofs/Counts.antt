@@ -6,8 +6,8 @@ use mathlib.Core.List.{List, [], ◌∷◌}
 use native.Mathlib.Omega.{arith}
 use lib.ListN.{length, get_or, length-append}
 use lib.Dec.{ltb, eqb}
-use Rattle.record.specs.declared.Record.{Record}
-use Rattle.record.specs.declared.Record.TheVariants.{Valid, Refused}
+use Rattle.record.specs.Record.{Record}
+use Rattle.std.specs.Prelude.{Ok, Err}
 use Rattle.record.specs.Record.{decode_of}
 use Rattle.capture.specs.declared.Reader.{Reader}
 use Rattle.capture.specs.Reader.{in_header, Turn, head_of, judged_of, record_of, turn_of, pair_of, feed_of, call_of, fresh_of}
@@ -25,8 +25,8 @@ abbrev Even : Reader → Turn → Type 0
 Even s t = t.reader.done * 2 ≡ s.done * 2 + length (pair_of t)
 
 judged_even : (s : Reader) (d : Record) → Even s (judged_of s d)
-judged_even s (Valid e) = omega arith
-judged_even s (Refused why) = omega arith
+judged_even s (Ok e) = omega arith
+judged_even s (Err why) = omega arith
 
 head_same : (s : Reader) (b : ℕ) → (head_of s b).done ≡ s.done
 head_same s b = head_ind s b (λ (t : Reader). t.done ≡ s.done) refl refl refl refl refl refl
@@ -56,8 +56,8 @@ refused_quiet s b =
     Quiet t = (t.reader.held ≡ 0 → ⊥) → pair_of t ≡ []
 
     judged_quiet : s.held ≡ 0 → (d : Record) → ((judged_of s d).reader.held ≡ 0 → ⊥) → pair_of (judged_of s d) ≡ []
-    judged_quiet z (Valid e) n = absurd (n z)
-    judged_quiet z (Refused why) n = refl
+    judged_quiet z (Ok e) n = absurd (n z)
+    judged_quiet z (Err why) n = refl
 
 pub feed_even : (s : Reader) (xs : List ℕ) (room : ℕ) → (feed_of s xs room).reader.done * 2 ≡ s.done * 2 + length (feed_of s xs room).answers
 unfolding feed_of

@@ -9,8 +9,8 @@ use lib.Dec.{ltb, eqb}
 use lib.ListN.{length, get_or, length-append}
 use borrow.Author.Tests.{leb-true, ltb-false, eqb-true, eqb-false}
 use Rattle.laws.proofs.Choices.{cond_ind, by_test}
-use Rattle.record.specs.declared.Record.{Record}
-use Rattle.record.specs.declared.Record.TheVariants.{Valid, Refused}
+use Rattle.record.specs.Record.{Record}
+use Rattle.std.specs.Prelude.{Ok, Err}
 use Rattle.record.specs.Record.{decode_of}
 use Rattle.capture.specs.declared.Reader.{Reader}
 use Rattle.capture.specs.Reader.{Turn, in_header, head_of, judged_of, record_of, turn_of, pair_of, ranges_of}
@@ -29,8 +29,8 @@ abbrev Four : Reader → Turn → Type 0
 Four s t = length (pair_of t) * 2 + t.reader.carried ≤ s.carried + 1
 
 judged_four : (s : Reader) (d : Record) → 3 ≤ s.carried → Four s (judged_of s d)
-judged_four s (Valid e) h = omega arith
-judged_four s (Refused why) h = omega arith
+judged_four s (Ok e) h = omega arith
+judged_four s (Err why) h = omega arith
 
 head_same : (s : Reader) (b : ℕ) → (head_of s b).carried ≡ s.carried
 head_same s b = head_ind s b (λ (t : Reader). t.carried ≡ s.carried) refl refl refl refl refl refl

@@ -13,9 +13,9 @@ use lib.Seq.{take_all}
 use borrow.Author.Tests.{ltb-true, ltb-false, lt-ltb, leb-true, leb-false, le-leb, lt-leb, le-ltb}
 use Rattle.laws.proofs.Choices.{cond_ind, by_test}
 use Rattle.device.specs.declared.Event.{Event}
-use Rattle.record.specs.declared.Record.{Record}
-use Rattle.record.specs.declared.Record.TheVariants.{Valid, Refused}
-use Rattle.record.specs.declared.Refusal.TheVariants.{Kind, Operand}
+use Rattle.record.specs.Record.{Record}
+use Rattle.std.specs.Prelude.{Ok, Err}
+use Rattle.record.specs.declared.refusal.Refusal.TheVariants.{Kind, Operand}
 use Rattle.record.specs.Record.{decode_of, code_of, known_kind}
 use Rattle.record.proofs.Known.{kind_refused}
 use Rattle.record.specs.Fours.{Quad, quads, over, quad_of}
@@ -48,8 +48,8 @@ ended s room = refl
 
 -- a record's code: its refusal's, or what comes after it
 abbrev judged_code : Record → ℕ → ℕ
-judged_code (Valid e) next = next
-judged_code (Refused why) next = code_of (Refused why)
+judged_code (Ok e) next = next
+judged_code (Err why) next = code_of (Err why)
 
 -- under a device count, the code of the records in order, then of the bytes over, k of n done, with so much room
 unfoldable judge_of : ℕ → ℕ → ℕ → ℕ → List Quad → List ℕ → ℕ
@@ -104,7 +104,7 @@ feed_judge n k d (x ∷ a ∷ b ∷ c ∷ xs) room =
     go : ltb k n ≡ true → (r : Record) → decode_of d.devices x a b c ≡ r
         → ((v : Event) → (feed_of (recording n (k + 1) (answers_of d v).bus []) xs (room - 2)).code ≡ rest)
         → (feed_of s (c ∷ xs) room).code ≡ judged_code (decode_of d.devices x a b c) (cond (leb 2 room) rest 7)
-    go e (Valid v) q ih =
+    go e (Ok v) q ih =
         let t : turn_of s c ≡ answered_of s (answers_of d v) = rw q at (fourth n k d e x a b c) in
         let next = ap (λ (u : Reader). (feed_of u xs (room - 2)).code) (stepped n k d (x ∷ a ∷ b ∷ []) v) in
         rw q
@@ -113,8 +113,8 @@ feed_judge n k d (x ∷ a ∷ b ∷ c ∷ xs) room =
         let on = feed_on s c xs room (rw t refl) (rw t (leb-true 2 room l)) in
         simp l (rw t at (ap (λ (o : Out). o.code) on) ∙ next ∙ ih v))
         (λ l. simp l (ap (λ (o : Out). o.code) (feed_full s c xs room (rw t refl) (rw t (leb-false 2 room l))))))
-    go e (Refused why) q ih =
-        let t : turn_of s c ≡ quiet_of (hold_of s (code_of (Refused why))) = rw q at (fourth n k d e x a b c) in
+    go e (Err why) q ih =
+        let t : turn_of s c ≡ quiet_of (hold_of s (code_of (Err why))) = rw q at (fourth n k d e x a b c) in
         rw q (refused _ c xs room t (lasting why))
 
 -- valid records that are counted and have room are passed by
@@ -146,7 +146,7 @@ sized (x ∷ a ∷ b ∷ c ∷ l) = record { whole = omega (arith, (sized l).who
 -- under a device count, k of n records done, these bytes of records ahead, some room
 pub data Lines (devices n k : ℕ) (l : List ℕ) (room : ℕ) : ℕ → Type 0 where
   kind : {j : ℕ} {q : Quad} → Judged devices n k l room j q → known_kind devices q.kind ≡ false → Lines devices n k l room 3
-  operand : {j : ℕ} {q : Quad} → Judged devices n k l room j q → quad_of devices q ≡ Refused Operand → Lines devices n k l room 4
+  operand : {j : ℕ} {q : Quad} → Judged devices n k l room j q → quad_of devices q ≡ Err Operand → Lines devices n k l room 4
   past_end : Past devices n k l room → Lines devices n k l room 5
   no_room : {j : ℕ} {q : Quad} → Judged devices n k l room j q → IsValid devices q → room < j * 2 + 2 → Lines devices n k l room 7
   in_records : Done devices n k l room → Lines devices n k l room 0
@@ -232,12 +232,12 @@ module _ (devices n k : ℕ) (q : Quad) (xs : List ℕ) (room : ℕ) (more : k <
   lined : {code : ℕ} (r : Record) → quad_of devices q ≡ r → Lines devices n (k + 1) xs (room - 2) code
       → Lines devices n k (ahead q xs) room (judged_code r (cond (leb 2 room) code 7))
   unfolding code_of
-  lined (Valid e) t next =
+  lined (Ok e) t next =
       cond_ind (Lines devices n k (ahead q xs) room) (leb 2 room)
       (λ two. shift (e, t) (leb-true 2 room two) next)
       (λ none. no_room here (e, t) (omega (arith, leb-false 2 room none)))
-  lined (Refused Kind) t next = kind here ((kind_refused devices q.kind q.a q.b q.c).0 t)
-  lined (Refused Operand) t next = operand here t
+  lined (Err Kind) t next = kind here ((kind_refused devices q.kind q.a q.b q.c).0 t)
+  lined (Err Operand) t next = operand here t
 
 judged : (devices n k : ℕ) (l : List ℕ) (room : ℕ) → Lines devices n k l room (judge_of devices n k room (quads l) (over l))
 unfolding judge_of

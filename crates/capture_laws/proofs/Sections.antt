@@ -15,10 +15,10 @@ use Rattle.device.specs.declared.Event.{Event}
 use Rattle.registers.specs.Page.{address_of}
 use Rattle.device.specs.Ranges.{variant_of}
 use Rattle.device.proofs.InRange.{powered_variant}
-use Rattle.record.specs.declared.Record.{Record}
-use Rattle.record.specs.declared.Record.TheVariants.{Valid, Refused}
-use Rattle.record.specs.declared.Refusal.{Refusal}
-use Rattle.record.specs.declared.Refusal.TheVariants.{Kind, Operand}
+use Rattle.record.specs.Record.{Record}
+use Rattle.std.specs.Prelude.{Ok, Err}
+use Rattle.record.specs.declared.refusal.Refusal.{Refusal}
+use Rattle.record.specs.declared.refusal.Refusal.TheVariants.{Kind, Operand}
 use Rattle.record.specs.Record.{decode_of, code_of}
 use Rattle.record.specs.Fours.{Quad, quads, over, quad_of}
 use Rattle.pair.specs.declared.Bus.{Bus}
@@ -87,7 +87,7 @@ module _ (n k : ℕ) (d : Bus) where
     full : (ys : List ℕ) → run_of (recording n k d []) (x ∷ ys) ≡ stop_of (hold_of (recording n k d []) 5)
     full ys = refused _ x ys past (λ z. omega arith)
 
-pub lasting : (why : Refusal) → code_of (Refused why) ≡ 0 → ⊥
+pub lasting : (why : Refusal) → code_of (Err why) ≡ 0 → ⊥
 unfolding code_of
 lasting Kind z = omega arith
 lasting Operand z = omega arith
@@ -133,7 +133,7 @@ records_run n k d (x ∷ a ∷ b ∷ c ∷ xs) =
     go : ltb k n ≡ true → (r : Record) → decode_of d.devices x a b c ≡ r
         → ((v : Event) → run_of (next v) xs ≡ outcome (records_of n (k + 1) (answers_of d v).bus (quads xs) (over xs)))
         → join_of 3 [] (run_of s (c ∷ xs)) ≡ outcome (records_of n k d (quads (x ∷ a ∷ b ∷ c ∷ xs)) (over (x ∷ a ∷ b ∷ c ∷ xs)))
-    go e (Valid v) q ih =
+    go e (Ok v) q ih =
         let t : turn_of s c ≡ answered_of s (answers_of d v) = rw q at (fourth n k d e x a b c) in
         let same = stepped n k d (x ∷ a ∷ b ∷ []) v in
         simp (e, q)
@@ -141,8 +141,8 @@ records_run n k d (x ∷ a ∷ b ∷ c ∷ xs) =
         ∙ ap (λ (u : Reader). join_of 3 [] (join_of 1 (pair v) (run_of u xs))) same
         ∙ join_join 3 1 [] (pair v) (run_of (next v) xs)
         ∙ ap (join_of 4 (pair v)) (ih v))
-    go e (Refused why) q ih =
-        let t : turn_of s c ≡ quiet_of (hold_of s (code_of (Refused why))) = rw q at (fourth n k d e x a b c) in
+    go e (Err why) q ih =
+        let t : turn_of s c ≡ quiet_of (hold_of s (code_of (Err why))) = rw q at (fourth n k d e x a b c) in
         simp (e, q) (ap (join_of 3 []) (refused _ c xs t (lasting why)))
 
 -- a byte of the count
@@ -262,9 +262,9 @@ records_finishing n k d (q ∷ qs) l =
     refuse code = then_of 3 [] (refuses_of (recording n k d (q.kind ∷ q.a ∷ q.b ∷ [])) code)
 
     each : (r : Record) → ((e : Event) → Finishes (rest e)) → Finishes (on_record r step_one refuse)
-    each (Valid e) f = f e
-    each (Refused Kind) f = refl
-    each (Refused Operand) f = refl
+    each (Ok e) f = f e
+    each (Err Kind) f = refl
+    each (Err Operand) f = refl
 
 count_finishing : (d : Bus) (xs : List ℕ) → Finishes (record_count_of d xs)
 unfolding record_count_of

@@ -18,8 +18,8 @@ use Rattle.device.specs.Bus.{powered_of}
 use Rattle.device.specs.Ranges.{variant_of}
 use Rattle.device.specs.Run.{replies_of}
 use Rattle.device.proofs.InRange.{powered_in_range, powered_variant}
-use Rattle.record.specs.declared.Record.{Record}
-use Rattle.record.specs.declared.Record.TheVariants.{Valid, Refused}
+use Rattle.record.specs.Record.{Record}
+use Rattle.std.specs.Prelude.{Ok, Err}
 use Rattle.record.specs.Record.{code_of}
 use Rattle.record.proofs.RoundTrip.{only_those}
 use Rattle.record.specs.Fours.{Quad, quad_of, quads, over, event_then, events_in}
@@ -72,8 +72,8 @@ module _ (n k : ℕ) (p : Bus) (q : Quad) (qs : List Quad) (l : List ℕ) where
 
   judged : (es : List Event) → ((e : Event) → Steps (records_of n (k + 1) (answers_of p e).bus qs l) (k + 1) (answers_of p e).bus es)
       → (r : Record) → Steps (on_record r stepped refused) k p (event_then r es)
-  judged es rest (Valid e) = one_event _ k p e es (rest e)
-  judged es rest (Refused why) = no_events (refused (code_of (Refused why))) k p refl refl refl
+  judged es rest (Ok e) = one_event _ k p e es (rest e)
+  judged es rest (Err why) = no_events (refused (code_of (Err why))) k p refl refl refl
 
 -- no event changes the device count that the records behind it are read under
 records_stepped : (n k : ℕ) (p : Bus) (qs : List Quad) (l : List ℕ) → Steps (records_of n k p qs l) k p (events_in p.devices (take (n - k) qs))
@@ -153,10 +153,10 @@ events_in_allowed devices [] = tt
 events_in_allowed devices (q ∷ qs) = judge (quad_of devices q) refl (events_in devices qs) (events_in_allowed devices qs)
   where
     judge : (r : Record) → quad_of devices q ≡ r → (es : List Event) → Allowed devices es → Allowed devices (event_then r es)
-    judge (Valid e) v es rest =
+    judge (Ok e) v es rest =
         let t = only_those devices q.kind q.a q.b q.c e v in
         (t.operands, t.count, rest)
-    judge (Refused why) v es rest = tt
+    judge (Err why) v es rest = tt
 
 -- ---- a capture's bus is ready where it has events
 

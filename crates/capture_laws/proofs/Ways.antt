@@ -8,9 +8,9 @@ use lib.ListN.{get_or}
 use lib.Dec.{ltb, leb, eqb}
 use borrow.Author.Tests.{eqb-true, eqb-false}
 use Rattle.laws.proofs.Choices.{clash, cond_ind, by_test}
-use Rattle.record.specs.declared.Record.{Record}
-use Rattle.record.specs.declared.Record.TheVariants.{Valid, Refused}
-use Rattle.record.specs.declared.Refusal.TheVariants.{Kind, Operand}
+use Rattle.record.specs.Record.{Record}
+use Rattle.std.specs.Prelude.{Ok, Err}
+use Rattle.record.specs.declared.refusal.Refusal.TheVariants.{Kind, Operand}
 use Rattle.record.specs.Record.{decode_of, code_of}
 use Rattle.capture.specs.declared.Reader.{Reader}
 use Rattle.capture.specs.Reader.{Turn, held_test, in_header, quiet_of, hold_of, head_of, judged_of, record_of, turn_of}
@@ -38,9 +38,9 @@ module _ (s : Reader) (b : ℕ) (none : s.held ≡ 0) where
 
   judged_way : (d : Record) → Way s (judged_of s d)
   unfolding code_of
-  judged_way (Valid e) = takes none none
-  judged_way (Refused Kind) = refuses 3 none refl
-  judged_way (Refused Operand) = refuses 4 none refl
+  judged_way (Ok e) = takes none none
+  judged_way (Err Kind) = refuses 3 none refl
+  judged_way (Err Operand) = refuses 4 none refl
 
 pub way : (s : Reader) (b : ℕ) → Way s (turn_of s b)
 unfolding turn_of record_of

@@ -15,10 +15,10 @@ use Rattle.device.specs.declared.Event.{Event}
 use Rattle.device.specs.declared.Event.TheVariants.{Write, Read, Send, Receive, Convert, Open, PowerOn, ConvertSecond, OpenSecond}
 use Rattle.registers.specs.Page.{address_of}
 use Rattle.device.specs.Ranges.{variant_of, operands_of, second_of}
-use Rattle.record.specs.declared.Record.{Record}
-use Rattle.record.specs.declared.Record.TheVariants.{Valid, Refused}
-use Rattle.record.specs.declared.Refusal.{Refusal}
-use Rattle.record.specs.declared.Refusal.TheVariants.{Kind, Operand}
+use Rattle.record.specs.Record.{Record}
+use Rattle.std.specs.Prelude.{Ok, Err}
+use Rattle.record.specs.declared.refusal.Refusal.{Refusal}
+use Rattle.record.specs.declared.refusal.Refusal.TheVariants.{Kind, Operand}
 use Rattle.record.specs.Record.{encode_of, code_of}
 use Rattle.record.specs.Writer.{count_bytes_of, header_of}
 use Rattle.record.proofs.RoundTrip.{reads_back, only_those}
@@ -67,7 +67,7 @@ module _ (n k : ℕ) (d : Bus) (e : Event) (xs : List ℕ) where
   unfolding records_of
   one_record h under l =
       let f = four_of e in
-      let valid : quad_of d.devices f.quad ≡ Valid e = rw f.bytes at (reads_back d.devices e h under) in
+      let valid : quad_of d.devices f.quad ≡ Ok e = rw f.bytes at (reads_back d.devices e h under) in
       rw f.bytes (simp (lt-ltb k n l, valid))
 
 -- ---- all records
@@ -95,7 +95,7 @@ events_read : (devices : ℕ) (es : List Event) → Allowed devices es → event
 events_read devices [] a = refl
 events_read devices (e ∷ es) a =
     let f = four_of e in
-    let valid : quad_of devices f.quad ≡ Valid e = rw f.bytes at (reads_back devices e a.0 a.1) in
+    let valid : quad_of devices f.quad ≡ Ok e = rw f.bytes at (reads_back devices e a.0 a.1) in
     rw (f.bytes, valid, events_read devices es a.2)
 
 -- ---- the header
@@ -184,14 +184,14 @@ record Reread (devices : ℕ) (xs : List ℕ) (n : ℕ) (es : List Event) : Type
   count : length es ≡ n
 
 -- a valid record, before those that are reread already
-one_more : (devices : ℕ) (q : Quad) (xs : List ℕ) (n : ℕ) (es : List Event) (e : Event) → quad_of devices q ≡ Valid e → Reread devices xs n es
+one_more : (devices : ℕ) (q : Quad) (xs : List ℕ) (n : ℕ) (es : List Event) (e : Event) → quad_of devices q ≡ Ok e → Reread devices xs n es
     → Reread devices (q.kind ∷ q.a ∷ q.b ∷ q.c ∷ xs) (suc n) (e ∷ es)
 one_more devices q xs n es e v r =
     let t = only_those devices q.kind q.a q.b q.c e v in
     record { bytes = rw (← t.bytes, ← r.bytes) refl; allowed = (t.operands, t.count, r.allowed); count = ap suc r.count }
 
 -- a refusal is no acceptance
-some_code : (why : Refusal) → code_of (Refused why) ≡ 0 → ⊥
+some_code : (why : Refusal) → code_of (Err why) ≡ 0 → ⊥
 unfolding code_of
 some_code Kind z = omega arith
 some_code Operand z = omega arith
@@ -217,8 +217,8 @@ module _ (n k : ℕ) (d : Bus) where
     judged : ((e : Event) → (records_of n (k + 1) (answers_of d e).bus (quads xs) (over xs)).finishing ≡ 0 → Reread d.devices xs m es)
         → (r : Record) → quad_of d.devices q ≡ r → (outcome r).finishing ≡ 0
         → Reread d.devices (q.kind ∷ q.a ∷ q.b ∷ q.c ∷ xs) (suc m) (event_then r es)
-    judged behind (Valid e) v z = one_more d.devices q xs m es e v (behind e z)
-    judged behind (Refused why) v z = absurd (some_code why z)
+    judged behind (Ok e) v z = one_more d.devices q xs m es e v (behind e z)
+    judged behind (Err why) v z = absurd (some_code why z)
 
 reread : (n k : ℕ) (d : Bus) (xs : List ℕ) → (records_of n k d (quads xs) (over xs)).finishing ≡ 0
     → Reread d.devices xs (n - k) (events_in d.devices (take (n - k) (quads xs)))
@@ -254,8 +254,8 @@ digits a b c d l m n o =
 -- what holds of each event and of each refusal holds of a record
 by_record : (P : Whole → Type 0) (r : Record) (step : Event → Whole) (refuse : ℕ → Whole) → ((e : Event) → P (step e)) → ((code : ℕ) → P (refuse code))
     → P (on_record r step refuse)
-by_record P (Valid e) step refuse f g = f e
-by_record P (Refused why) step refuse f g = g (code_of (Refused why))
+by_record P (Ok e) step refuse f g = f e
+by_record P (Err why) step refuse f g = g (code_of (Err why))
 
 -- the record count stays what the header says
 count_kept : (n k : ℕ) (d : Bus) (qs : List Quad) (l : List ℕ) → (records_of n k d qs l).reader.count ≡ n

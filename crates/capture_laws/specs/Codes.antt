@@ -6,8 +6,8 @@ use Rattle.std.specs.Prelude.{List, [], ◌∷◌, ◌++◌, length, take, drop}
 use Rattle.registers.specs.Page.{address_of}
 use Rattle.device.specs.declared.Event.{Event}
 use Rattle.device.specs.Ranges.{variant_of}
-use Rattle.record.specs.declared.Record.TheVariants.{Valid, Refused}
-use Rattle.record.specs.declared.Refusal.TheVariants.{Operand}
+use Rattle.std.specs.Prelude.{Ok, Err}
+use Rattle.record.specs.declared.refusal.Refusal.TheVariants.{Operand}
 use Rattle.record.specs.Record.{known_kind}
 use Rattle.record.specs.Fours.{Quad, quads, quad_of}
 use Rattle.pair.specs.Bus.{count_place}
@@ -60,7 +60,7 @@ carried_of s = take s.carried s.bytes
 
 -- under a device count
 abbrev pub IsValid : ℕ → Quad → Type 0
-IsValid devices q = (e : Event) × (quad_of devices q ≡ Valid e)
+IsValid devices q = (e : Event) × (quad_of devices q ≡ Ok e)
 
 abbrev pub AllValid : ℕ → List Quad → Type 0
 AllValid devices [] = Unit {0}
@@ -111,7 +111,7 @@ pub data Gives (s : Reader) (xs : List ℕ) (room : ℕ) : ℕ → Type 0 where
       → Judged devices n s.done (carried_of s ++ l) room j q → known_kind devices q.kind ≡ false → Gives s xs room 3
   -- 4: an operand breaks the table
   operand : {devices n j : ℕ} {l : List ℕ} {q : Quad} → Free s → header_ahead s xs ≡ complete devices n l
-      → Judged devices n s.done (carried_of s ++ l) room j q → quad_of devices q ≡ Refused Operand → Gives s xs room 4
+      → Judged devices n s.done (carried_of s ++ l) room j q → quad_of devices q ≡ Err Operand → Gives s xs room 4
   -- 5: a byte comes after the last counted record
   past_end : {devices n : ℕ} {l : List ℕ} → Free s → header_ahead s xs ≡ complete devices n l → Past devices n s.done (carried_of s ++ l) room
       → Gives s xs room 5

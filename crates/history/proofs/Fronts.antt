@@ -17,9 +17,9 @@ use Rattle.laws.proofs.Choices.{by_test, clash}
 use Rattle.registers.specs.Page.{address_of}
 use Rattle.device.specs.declared.Event.{Event}
 use Rattle.device.specs.Ranges.{variant_of}
-use Rattle.record.specs.declared.Record.{Record}
-use Rattle.record.specs.declared.Record.TheVariants.{Valid, Refused}
-use Rattle.record.specs.declared.Refusal.TheVariants.{Kind, Operand}
+use Rattle.record.specs.Record.{Record}
+use Rattle.std.specs.Prelude.{Ok, Err}
+use Rattle.record.specs.declared.refusal.Refusal.TheVariants.{Kind, Operand}
 use Rattle.record.specs.Record.{code_of}
 use Rattle.record.specs.Fours.{Quad, quads, over, quad_of, event_then, events_in}
 use Rattle.pair.specs.declared.Bus.{Bus}
@@ -123,8 +123,8 @@ events_front devices (suc k) (q ∷ qs) = judge (quad_of devices q) (events_fron
   where
     judge : (r : Record) → events_in devices (take k qs) ≡ take k (events_in devices qs)
         → event_then r (events_in devices (take k qs)) ≡ take (suc k) (event_then r (events_in devices qs))
-    judge (Valid e) rest = ap (λ (es : List Event). e ∷ es) rest
-    judge (Refused why) rest = refl
+    judge (Ok e) rest = ap (λ (es : List Event). e ∷ es) rest
+    judge (Err why) rest = refl
 
 -- two cuts, in either order
 take_swap : (n k : ℕ) (qs : List Quad) → take n (take k qs) ≡ take k (take n qs)
@@ -200,9 +200,9 @@ at_end n k p (q ∷ qs) l z =
 
     judge : (r : Record) → ((v : Event) → (rest v).finishing ≡ 0 → AtEnd (rest v) n (k + 1)) → (on_record r step refuse).finishing ≡ 0
         → AtEnd (on_record r step refuse) n k
-    judge (Valid v) more z = let e = more v z in record { done = e.done; consumed = omega (arith, e.consumed) }
-    judge (Refused Kind) more z = absurd (omega arith)
-    judge (Refused Operand) more z = absurd (omega arith)
+    judge (Ok v) more z = let e = more v z in record { done = e.done; consumed = omega (arith, e.consumed) }
+    judge (Err Kind) more z = absurd (omega arith)
+    judge (Err Operand) more z = absurd (omega arith)
 
 -- every counted record is done, and the header and the counted records are what is consumed
 record Complete (xs : List ℕ) : Type 0 where

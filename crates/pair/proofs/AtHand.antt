@@ -23,7 +23,7 @@ use Rattle.device.specs.Bus.{silent_of, responds_of, powered_of, alert_response}
 use Rattle.device.specs.Ranges.{second_of}
 use Rattle.device.specs.Step.{effect_of, answer_of}
 use Rattle.device.proofs.Untouched.{elsewhere, unanswered}
-use Rattle.record.specs.declared.Record.TheVariants.{Valid}
+use Rattle.std.specs.Prelude.{Ok}
 use Rattle.record.specs.Record.{decode_of, encode_of}
 use Rattle.record.proofs.RoundTrip.{only_those}
 use Rattle.pair.specs.declared.Bus.{Bus}
@@ -41,7 +41,7 @@ ByHand p second restart e = bus_effect_of p e ≡ done_of (settled_of p restart)
 
 -- ---- the bytes of an event
 
-module _ (devices kind a b c : ℕ) (e : Event) (q : decode_of devices kind a b c ≡ Valid e) where
+module _ (devices kind a b c : ℕ) (e : Event) (q : decode_of devices kind a b c ≡ Ok e) where
   bytes : kind ∷ a ∷ b ∷ c ∷ [] ≡ encode_of e
   bytes = (only_those devices kind a b c e q).bytes
 
@@ -99,7 +99,7 @@ module _ (p : Bus) (two : two_of p ≡ true) where
   taken_event (OpenSecond local) = refl
 
   -- its first two bytes name whom the event names
-  named_event : (kind a b c : ℕ) (e : Event) → decode_of p.devices kind a b c ≡ Valid e → named_at p kind a ≡ among_of p e
+  named_event : (kind a b c : ℕ) (e : Event) → decode_of p.devices kind a b c ≡ Ok e → named_at p kind a ≡ among_of p e
   unfolding named_at among_of encode_of
   named_event kind a b c (Write x w v) q = rw (two, kind_of p.devices kind a b c (Write x w v) q, operand_of p.devices kind a b c (Write x w v) q)
   named_event kind a b c (Read x r) q = rw (two, kind_of p.devices kind a b c (Read x r) q, operand_of p.devices kind a b c (Read x r) q)
@@ -111,7 +111,7 @@ module _ (p : Bus) (two : two_of p ≡ true) where
   named_event kind a b c (ConvertSecond local high low) q = rw (two, kind_of p.devices kind a b c (ConvertSecond local high low) q)
   named_event kind a b c (OpenSecond local) q = rw (two, kind_of p.devices kind a b c (OpenSecond local) q)
 
-  taken_record : (kind a b c : ℕ) (e : Event) → decode_of p.devices kind a b c ≡ Valid e
+  taken_record : (kind a b c : ℕ) (e : Event) → decode_of p.devices kind a b c ≡ Ok e
       → ByHand p (is_second (named_at p kind a)) (is_both (named_at p kind a)) e
   unfolding bus_effect_of names_of
   taken_record kind a b c e q = rw (two, named_event kind a b c e q) (taken_event e)
@@ -120,15 +120,15 @@ module _ (p : Bus) (two : two_of p ≡ true) where
 
 module _ (p : Bus) (one : two_of p ≡ false) where
   -- no event of a second device is read under another count
-  own_kinds : (kind a b c : ℕ) (e : Event) → decode_of p.devices kind a b c ≡ Valid e → second_of e ≡ false
+  own_kinds : (kind a b c : ℕ) (e : Event) → decode_of p.devices kind a b c ≡ Ok e → second_of e ≡ false
   own_kinds kind a b c e q =
       by_test (second_of e) (λ s. clash (sym one ∙ rw ((only_those p.devices kind a b c e q).count s))) (λ s. s)
 
-  pub one_device : (kind a b c : ℕ) (e : Event) → decode_of p.devices kind a b c ≡ Valid e → ByHand p false false e
+  pub one_device : (kind a b c : ℕ) (e : Event) → decode_of p.devices kind a b c ≡ Ok e → ByHand p false false e
   unfolding bus_effect_of names_of
   one_device kind a b c e q = rw (one, own_kinds kind a b c e q)
 
-pub first_record : (p : Bus) (kind a b c : ℕ) (e : Event) → decode_of p.devices kind a b c ≡ Valid e
+pub first_record : (p : Bus) (kind a b c : ℕ) (e : Event) → decode_of p.devices kind a b c ≡ Ok e
     → ByHand p (is_second (named_at p kind a)) (is_both (named_at p kind a)) e
 unfolding named_at
 first_record p kind a b c e q =
@@ -188,7 +188,7 @@ module _ (p : Bus) (second : Bool) where
   kept (ConvertSecond local high low) n = of_second 8 (ConvertSecond local high low) refl n
   kept (OpenSecond local) n = of_second 9 (OpenSecond local) refl n
 
-  pub next_record : two_of p ≡ true → (kind a b c : ℕ) (e : Event) → decode_of p.devices kind a b c ≡ Valid e
+  pub next_record : two_of p ≡ true → (kind a b c : ℕ) (e : Event) → decode_of p.devices kind a b c ≡ Ok e
       → else_named second (away_of p second) kind a ≡ false → ByHand p second false e
   unfolding bus_effect_of names_of Stays
   next_record two kind a b c e q stays =
@@ -312,7 +312,7 @@ laid_alone p second d e two by =
     rw (by, picked_placed p second d, by_count (placed_of p second d) second o two, lines_stay p second d, placed_again p second d o.device)
 
 -- the record that the device is taken up for
-pub hand_first : (p : Bus) (kind a b c : ℕ) (e : Event) → decode_of p.devices kind a b c ≡ Valid e
+pub hand_first : (p : Bus) (kind a b c : ℕ) (e : Event) → decode_of p.devices kind a b c ≡ Ok e
     → Laid p (hand_of p kind a) (picked_of p (hand_of p kind a).second) e
 hand_first p kind a b c e q = split (named_at p kind a) (first_record p kind a b c e q) (second_of_two p kind a)
   where
@@ -324,7 +324,7 @@ hand_first p kind a b c e q = split (named_at p kind a) (first_record p kind a b
 
 -- a record behind it, with a device that has come of it since
 pub hand_next : (p : Bus) (n : Named) (d : Device) → is_both n ≡ false → (is_second n ≡ true → two_of p ≡ true)
-    → (kind a b c : ℕ) (e : Event) → decode_of p.devices kind a b c ≡ Valid e
+    → (kind a b c : ℕ) (e : Event) → decode_of p.devices kind a b c ≡ Ok e
     → leaves_of (hand_for p n) kind a ≡ false → Laid p (hand_for p n) d e
 hand_next p n d lasts two kind a b c e q stays =
     rw lasts

@@ -12,13 +12,13 @@ use borrow.Author.Tests.{eqb-true, leb-true, lt-leb, ne_eqb}
 use Rattle.laws.proofs.Choices.{clash, cond_ind, by_test}
 use Rattle.device.specs.declared.Event.{Event}
 use Rattle.device.specs.declared.Event.TheVariants.{Write, Read, Send, Receive, Convert, Open, PowerOn, ConvertSecond, OpenSecond}
-use Rattle.record.specs.declared.Record.{Record}
-use Rattle.record.specs.declared.Record.TheVariants.{Refused}
-use Rattle.record.specs.declared.Refusal.TheVariants.{Kind}
+use Rattle.record.specs.Record.{Record}
+use Rattle.std.specs.Prelude.{Err}
+use Rattle.record.specs.declared.refusal.Refusal.TheVariants.{Kind}
 use Rattle.record.specs.Record.{decode_of, admit_of, good_of, last_kind_of, known_kind}
 
 -- no kind of the table is refused for its kind
-admits : {P : Type 0} (good : Bool) (e : Event) → admit_of good e ≡ Refused Kind → P
+admits : {P : Type 0} (good : Bool) (e : Event) → admit_of good e ≡ Err Kind → P
 admits true e q = let z : ◌≡◌ {A = ℕ} 0 1 = cc in absurd (omega arith)
 admits false e q = let z : ◌≡◌ {A = ℕ} 0 1 = cc in absurd (omega arith)
 
@@ -33,7 +33,7 @@ either : (t : Bool) (r : Record) → cond t r r ≡ r
 either true r = refl
 either false r = refl
 
-refused : (devices kind a b c : ℕ) → decode_of devices kind a b c ≡ Refused Kind → known_kind devices kind ≡ false
+refused : (devices kind a b c : ℕ) → decode_of devices kind a b c ≡ Err Kind → known_kind devices kind ≡ false
 unfolding decode_of
 refused devices zero a b c q = refl
 refused devices (suc zero) a b c q = admits (good_of (Write a b c) []) (Write a b c) q
@@ -54,7 +54,7 @@ refused devices (suc (suc (suc (suc (suc (suc (suc (suc (suc (suc k)))))))))) a 
 other : (devices kind : ℕ) → known_kind devices kind ≡ false → (k : ℕ) → known_kind devices k ≡ true → eqb kind k ≡ false
 other devices kind u k y = by_test (eqb kind k) (λ e. clash (sym u ∙ rw (eqb-true kind k e) y)) (λ e. e)
 
-unknown : (devices kind a b c : ℕ) → known_kind devices kind ≡ false → decode_of devices kind a b c ≡ Refused Kind
+unknown : (devices kind a b c : ℕ) → known_kind devices kind ≡ false → decode_of devices kind a b c ≡ Err Kind
 unfolding decode_of
 unknown devices kind a b c u =
     let no = other devices kind u in
@@ -62,10 +62,10 @@ unknown devices kind a b c u =
     (λ two. simp (two, no 1 (rw two), no 2 (rw two), no 3 (rw two), no 4 (rw two), no 5 (rw two), no 6 (rw two), no 7 (rw two), no 8 (rw two), no 9 (rw two)))
     (λ one. simp (one, no 1 (rw one), no 2 (rw one), no 3 (rw one), no 4 (rw one), no 5 (rw one), no 6 (rw one), no 7 (rw one), either))
 
-pub kind_refused : (devices kind a b c : ℕ) → (decode_of devices kind a b c ≡ Refused Kind) ↔ (known_kind devices kind ≡ false)
+pub kind_refused : (devices kind a b c : ℕ) → (decode_of devices kind a b c ≡ Err Kind) ↔ (known_kind devices kind ≡ false)
 kind_refused devices kind a b c = (refused devices kind a b c, unknown devices kind a b c)
 
-pub past_last : (devices kind a b c : ℕ) → last_kind_of devices < kind → decode_of devices kind a b c ≡ Refused Kind
+pub past_last : (devices kind a b c : ℕ) → last_kind_of devices < kind → decode_of devices kind a b c ≡ Err Kind
 past_last devices kind a b c h = (kind_refused devices kind a b c).1 (simp (lt-leb kind (last_kind_of devices) h, and-false))
 
 -- a last kind past 07 is that of two devices

@@ -15,10 +15,10 @@ use Rattle.device.specs.declared.Event.{Event}
 use Rattle.device.specs.declared.Event.TheVariants.{Write, Read, Send, Receive, Convert, Open, PowerOn, ConvertSecond, OpenSecond}
 use Rattle.device.specs.Ranges.{operands_of, second_of}
 use Rattle.device.proofs.Tests.{Each, each}
-use Rattle.record.specs.declared.Record.{Record}
-use Rattle.record.specs.declared.Record.TheVariants.{Valid, Refused}
-use Rattle.record.specs.declared.Refusal.{Refusal}
-use Rattle.record.specs.declared.Refusal.TheVariants.{Kind, Operand}
+use Rattle.record.specs.Record.{Record}
+use Rattle.std.specs.Prelude.{Ok, Err}
+use Rattle.record.specs.declared.refusal.Refusal.{Refusal}
+use Rattle.record.specs.declared.refusal.Refusal.TheVariants.{Kind, Operand}
 use Rattle.record.specs.Record.{decode_of, admit_of, good_of, under_two_of, encode_of}
 
 -- four bytes of a list, decoded under a device count
@@ -37,7 +37,7 @@ four_bytes PowerOn = refl
 four_bytes (ConvertSecond a b c) = refl
 four_bytes (OpenSecond a) = refl
 
-pub reads_back : (devices : ℕ) (e : Event) → operands_of e ≡ true → (second_of e ≡ true → devices ≡ 2) → read_of devices (encode_of e) ≡ Valid e
+pub reads_back : (devices : ℕ) (e : Event) → operands_of e ≡ true → (second_of e ≡ true → devices ≡ 2) → read_of devices (encode_of e) ≡ Ok e
 unfolding decode_of encode_of second_of
 reads_back devices (Write a b c) h two = rw h
 reads_back devices (Read a b) h two = rw h
@@ -50,7 +50,7 @@ reads_back devices (ConvertSecond a b c) h two = rw (two refl, h)
 reads_back devices (OpenSecond a) h two = rw (two refl, h)
 
 -- an event that the table does not allow is refused for its operand
-pub reads_refused : (devices : ℕ) (e : Event) → operands_of e ≡ false → (second_of e ≡ true → devices ≡ 2) → read_of devices (encode_of e) ≡ Refused Operand
+pub reads_refused : (devices : ℕ) (e : Event) → operands_of e ≡ false → (second_of e ≡ true → devices ≡ 2) → read_of devices (encode_of e) ≡ Err Operand
 unfolding decode_of encode_of second_of
 reads_refused devices (Write a b c) h two = rw h
 reads_refused devices (Read a b) h two = rw h
@@ -63,7 +63,7 @@ reads_refused devices (ConvertSecond a b c) h two = rw (two refl, h)
 reads_refused devices (OpenSecond a) h two = rw (two refl, h)
 
 -- a conversion of the second device is refused for its kind under any other count, whatever its operands
-pub reads_unknown : (devices : ℕ) (e : Event) → second_of e ≡ true → eqb devices 2 ≡ false → read_of devices (encode_of e) ≡ Refused Kind
+pub reads_unknown : (devices : ℕ) (e : Event) → second_of e ≡ true → eqb devices 2 ≡ false → read_of devices (encode_of e) ≡ Err Kind
 unfolding decode_of encode_of second_of
 reads_unknown devices (Write a b c) s other = clash s
 reads_unknown devices (Read a b) s other = clash s
@@ -83,15 +83,15 @@ pub record Told (devices kind a b c : ℕ) (e : Event) : Type 0 where
   pub operands : operands_of e ≡ true
   pub count : second_of e ≡ true → devices ≡ 2
 
-same_event : {e f : Event} → ◌≡◌ {A = Record} (Valid e) (Valid f) → e ≡ f
+same_event : {e f : Event} → ◌≡◌ {A = Record} (Ok e) (Ok f) → e ≡ f
 same_event q = cc
 
 module _ (devices kind a b c : ℕ) (e : Event) where
   -- what holds of a record that reads as the event
   abbrev Reads : Record → Type 0
-  Reads r = r ≡ Valid e → Told devices kind a b c e
+  Reads r = r ≡ Ok e → Told devices kind a b c e
 
-  refused : (why : Refusal) → Reads (Refused why)
+  refused : (why : Refusal) → Reads (Err why)
   refused why q = let z : ◌≡◌ {A = ℕ} 0 1 = cc in absurd (omega arith)
 
   -- a record that is admitted is the event's, if its bytes are so where the other operands are 0
@@ -103,7 +103,7 @@ module _ (devices kind a b c : ℕ) (e : Event) where
       rw (← (same_event q)) (record { bytes = so t.1; operands = t.0; count = count }))
       (λ _. refused Operand)
 
-  pub only_those : decode_of devices kind a b c ≡ Valid e → Told devices kind a b c e
+  pub only_those : decode_of devices kind a b c ≡ Ok e → Told devices kind a b c e
   unfolding decode_of encode_of second_of
   only_those =
       cond_ind Reads (eqb kind 0x01) (λ k. admitted (Write a b c) [] clash (λ _. rw (eqb-true kind 0x01 k)))

@@ -5,9 +5,9 @@ use Rattle.std.specs.Prelude.{ℕ, ◌≡◌, refl, List, [], ◌∷◌, map}
 use Rattle.device.specs.declared.Event.TheVariants.{Write, Read, Send, Receive, Convert, Open, PowerOn, ConvertSecond, OpenSecond}
 use Rattle.registers.specs.Page.{address_of}
 use Rattle.device.specs.Ranges.{variant_of, operands_of}
-use Rattle.record.specs.declared.Record.{Record}
-use Rattle.record.specs.declared.Record.TheVariants.{Valid, Refused}
-use Rattle.record.specs.declared.Refusal.TheVariants.{Kind, Operand}
+use Rattle.record.specs.Record.{Record}
+use Rattle.std.specs.Prelude.{Ok, Err}
+use Rattle.record.specs.declared.refusal.Refusal.TheVariants.{Kind, Operand}
 use Rattle.record.specs.Record.{code_of, decode_of, encode_of}
 use Rattle.record.specs.Writer.{writes, refuses, write_event_of, count_bytes_of, header_of, write_header_of, write_header2_of}
 use Rattle.record.specs.Writer.{WroteEvent, WroteHeader, WroteHeader2}
@@ -26,44 +26,44 @@ row kind a b c read = record { kind = kind; a = a; b = b; c = c; read = read }
 -- kinds that read alike under every device count
 abbrev pub rows : List Row
 rows =
-    row 0x00 0x00 0x00 0x00 (Refused Kind) ∷
-    row 0x0A 0x00 0x00 0x00 (Refused Kind) ∷
-    row 0x0A 0x80 0x01 0x01 (Refused Kind) ∷
-    row 0xFF 0x80 0x01 0x01 (Refused Kind) ∷
-    row 0x01 0x7F 0xFF 0xFF (Valid (Write 127 255 255)) ∷
-    row 0x01 0x80 0x00 0x00 (Refused Operand) ∷
-    row 0x02 0x7F 0xFF 0x00 (Valid (Read 127 255)) ∷
-    row 0x02 0x80 0x00 0x00 (Refused Operand) ∷
-    row 0x02 0x4C 0x00 0x01 (Refused Operand) ∷
-    row 0x03 0x7F 0xFF 0x00 (Valid (Send 127 255)) ∷
-    row 0x03 0x80 0x00 0x00 (Refused Operand) ∷
-    row 0x03 0x4C 0x00 0x01 (Refused Operand) ∷
-    row 0x04 0x7F 0x00 0x00 (Valid (Receive 127)) ∷
-    row 0x04 0x80 0x00 0x00 (Refused Operand) ∷
-    row 0x04 0x4C 0x01 0x00 (Refused Operand) ∷
-    row 0x04 0x4C 0x00 0x01 (Refused Operand) ∷
-    row 0x05 0xFF 0xFE 0xE0 (Valid (Convert 255 254 224)) ∷
-    row 0x05 0x00 0x00 0x1F (Refused Operand) ∷
-    row 0x05 0x00 0x00 0xF0 (Refused Operand) ∷
-    row 0x06 0xFF 0x00 0x00 (Valid (Open 255)) ∷
-    row 0x06 0x00 0x01 0x00 (Refused Operand) ∷
-    row 0x06 0x00 0x00 0x01 (Refused Operand) ∷
-    row 0x07 0x00 0x00 0x00 (Valid PowerOn) ∷
-    row 0x07 0x01 0x00 0x00 (Refused Operand) ∷
-    row 0x07 0x00 0x01 0x00 (Refused Operand) ∷
-    row 0x07 0x00 0x00 0x01 (Refused Operand) ∷
+    row 0x00 0x00 0x00 0x00 (Err Kind) ∷
+    row 0x0A 0x00 0x00 0x00 (Err Kind) ∷
+    row 0x0A 0x80 0x01 0x01 (Err Kind) ∷
+    row 0xFF 0x80 0x01 0x01 (Err Kind) ∷
+    row 0x01 0x7F 0xFF 0xFF (Ok (Write 127 255 255)) ∷
+    row 0x01 0x80 0x00 0x00 (Err Operand) ∷
+    row 0x02 0x7F 0xFF 0x00 (Ok (Read 127 255)) ∷
+    row 0x02 0x80 0x00 0x00 (Err Operand) ∷
+    row 0x02 0x4C 0x00 0x01 (Err Operand) ∷
+    row 0x03 0x7F 0xFF 0x00 (Ok (Send 127 255)) ∷
+    row 0x03 0x80 0x00 0x00 (Err Operand) ∷
+    row 0x03 0x4C 0x00 0x01 (Err Operand) ∷
+    row 0x04 0x7F 0x00 0x00 (Ok (Receive 127)) ∷
+    row 0x04 0x80 0x00 0x00 (Err Operand) ∷
+    row 0x04 0x4C 0x01 0x00 (Err Operand) ∷
+    row 0x04 0x4C 0x00 0x01 (Err Operand) ∷
+    row 0x05 0xFF 0xFE 0xE0 (Ok (Convert 255 254 224)) ∷
+    row 0x05 0x00 0x00 0x1F (Err Operand) ∷
+    row 0x05 0x00 0x00 0xF0 (Err Operand) ∷
+    row 0x06 0xFF 0x00 0x00 (Ok (Open 255)) ∷
+    row 0x06 0x00 0x01 0x00 (Err Operand) ∷
+    row 0x06 0x00 0x00 0x01 (Err Operand) ∷
+    row 0x07 0x00 0x00 0x00 (Ok PowerOn) ∷
+    row 0x07 0x01 0x00 0x00 (Err Operand) ∷
+    row 0x07 0x00 0x01 0x00 (Err Operand) ∷
+    row 0x07 0x00 0x00 0x01 (Err Operand) ∷
     []
 
 -- request c: kinds 08 and 09, as they read under a device count of 2
 abbrev pub seconds : List Row
 seconds =
-    row 0x08 0xFF 0xFE 0xE0 (Valid (ConvertSecond 255 254 224)) ∷
-    row 0x08 0x80 0x01 0x00 (Valid (ConvertSecond 128 1 0)) ∷
-    row 0x08 0x00 0x00 0x1F (Refused Operand) ∷
-    row 0x08 0x00 0x00 0xF0 (Refused Operand) ∷
-    row 0x09 0xFF 0x00 0x00 (Valid (OpenSecond 255)) ∷
-    row 0x09 0x00 0x01 0x00 (Refused Operand) ∷
-    row 0x09 0x00 0x00 0x01 (Refused Operand) ∷
+    row 0x08 0xFF 0xFE 0xE0 (Ok (ConvertSecond 255 254 224)) ∷
+    row 0x08 0x80 0x01 0x00 (Ok (ConvertSecond 128 1 0)) ∷
+    row 0x08 0x00 0x00 0x1F (Err Operand) ∷
+    row 0x08 0x00 0x00 0xF0 (Err Operand) ∷
+    row 0x09 0xFF 0x00 0x00 (Ok (OpenSecond 255)) ∷
+    row 0x09 0x00 0x01 0x00 (Err Operand) ∷
+    row 0x09 0x00 0x00 0x01 (Err Operand) ∷
     []
 
 abbrev decodes : List Row → ℕ → List Record
@@ -82,13 +82,13 @@ seconds_decoded = refl
 
 -- 3 before 4: under any other count the kind is refused, whatever the operands
 abbrev unknown : List Record
-unknown = Refused Kind ∷ Refused Kind ∷ Refused Kind ∷ Refused Kind ∷ Refused Kind ∷ Refused Kind ∷ Refused Kind ∷ []
+unknown = Err Kind ∷ Err Kind ∷ Err Kind ∷ Err Kind ∷ Err Kind ∷ Err Kind ∷ Err Kind ∷ []
 
 pub seconds_unknown : map (decodes seconds) (0 ∷ 1 ∷ 3 ∷ 255 ∷ []) ≡ unknown ∷ unknown ∷ unknown ∷ unknown ∷ []
 unfolding decode_of operands_of
 seconds_unknown = refl
 
-pub codes : map code_of (Valid PowerOn ∷ Refused Kind ∷ Refused Operand ∷ []) ≡ 0 ∷ 3 ∷ 4 ∷ []
+pub codes : map code_of (Ok PowerOn ∷ Err Kind ∷ Err Operand ∷ []) ≡ 0 ∷ 3 ∷ 4 ∷ []
 unfolding code_of
 codes = refl
 

@@ -2,8 +2,8 @@
 -- Assumes nothing.
 use Rattle.std.specs.Prelude.{ℕ, List, [], ◌∷◌}
 use Rattle.device.specs.declared.Event.{Event}
-use Rattle.record.specs.declared.Record.{Record}
-use Rattle.record.specs.declared.Record.TheVariants.{Valid, Refused}
+use Rattle.record.specs.Record.{Record}
+use Rattle.std.specs.Prelude.{Ok, Err}
 use Rattle.record.specs.Record.{decode_of}
 
 -- kind, a, b, c
@@ -36,8 +36,8 @@ quad_of devices q = decode_of devices q.kind q.a q.b q.c
 
 -- of a record and of those behind it: none from the first refused one on
 abbrev pub event_then : Record → List Event → List Event
-event_then (Valid e) es = e ∷ es
-event_then (Refused why) es = []
+event_then (Ok e) es = e ∷ es
+event_then (Err why) es = []
 
 -- of records in order, under a device count, up to the first refused one
 abbrev pub events_in : ℕ → List Quad → List Event

@@ -1,22 +1,25 @@
 -- The capture's records: kind, a, b, c, under a device count, to an event or a refusal, and an event to its four bytes, by the table of kinds.
 -- Assumes nothing.
-use Rattle.std.specs.Prelude.{ℕ, Bool, cond, ◌&&◌, List, [], ◌∷◌, map, eqb, leb}
+use Rattle.std.specs.Prelude.{ℕ, Bool, cond, ◌&&◌, List, [], ◌∷◌, map, eqb, leb, Result, Ok, Err}
 use Rattle.device.specs.declared.Event.{Event}
 use Rattle.device.specs.declared.Event.TheVariants.{Write, Read, Send, Receive, Convert, Open, PowerOn, ConvertSecond, OpenSecond}
 use Rattle.device.specs.Ranges.{all_true, operands_of}
-use Rattle.record.specs.declared.Record.{Record}
-use Rattle.record.specs.declared.Record.TheVariants.{Valid, Refused}
-use Rattle.record.specs.declared.Refusal.TheVariants.{Kind, Operand}
+use Rattle.record.specs.declared.refusal.Refusal.{Refusal}
+use Rattle.record.specs.declared.refusal.Refusal.TheVariants.{Kind, Operand}
+
+-- a record is either one event or a refusal
+abbrev pub Record : Type 0
+Record = Result Event Refusal
 
 -- the codes of the cases: 3 for a kind that is not the table's, 4 for an operand that breaks it
 unfoldable pub code_of : Record → ℕ
-code_of (Valid e) = 0
-code_of (Refused Kind) = 3
-code_of (Refused Operand) = 4
+code_of (Ok e) = 0
+code_of (Err Kind) = 3
+code_of (Err Operand) = 4
 
 -- the event, if its operands are good
 abbrev pub admit_of : Bool → Event → Record
-admit_of good e = cond good (Valid e) (Refused Operand)
+admit_of good e = cond good (Ok e) (Err Operand)
 
 -- the operands that an event has are in the table, and the others are 0
 abbrev pub good_of : Event → List ℕ → Bool
@@ -24,7 +27,7 @@ good_of e others = all_true (operands_of e ∷ map (λ x. eqb x 0) others)
 
 -- request c: 08 and 09 are read under a device count of 2; under any other the kind is refused, 3 before 4
 abbrev pub under_two_of : ℕ → Record → Record
-under_two_of devices r = cond (eqb devices 2) r (Refused Kind)
+under_two_of devices r = cond (eqb devices 2) r (Err Kind)
 
 -- the table of kinds
 unfoldable pub decode_of : ℕ → ℕ → ℕ → ℕ → ℕ → Record
@@ -39,7 +42,7 @@ decode_of devices kind a b c =
     -- request c: the operands of 05 and 06
     (cond (eqb kind 0x08) (under_two_of devices (admit_of (good_of (ConvertSecond a b c) []) (ConvertSecond a b c)))
     (cond (eqb kind 0x09) (under_two_of devices (admit_of (good_of (OpenSecond a) (b ∷ c ∷ [])) (OpenSecond a)))
-    (Refused Kind)))))))))
+    (Err Kind)))))))))
 
 -- the last kind of the table: 07; request c: under a device count of 2, 09
 abbrev pub last_kind_of : ℕ → ℕ

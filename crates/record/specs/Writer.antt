@@ -1,10 +1,32 @@
 -- Writers into a lent buffer: what is written, and what is refused with nothing written.
 -- Assumes nothing.
-use Rattle.std.specs.Prelude.{ℕ, ◌/◌, ◌%◌, ◌≡◌, Bool, cond, ◌&&◌, List, [], ◌∷◌, ◌++◌, leb, eqb, length, drop}
+use Rattle.std.specs.Prelude.{ℕ, ◌/◌, ◌%◌, ◌≡◌, Bool, cond, ◌&&◌, List, [], ◌∷◌, ◌++◌, leb, eqb, length, drop, Result, Ok, Err}
 use Rattle.registers.specs.Page.{address_of}
 use Rattle.device.specs.declared.Event.{Event}
 use Rattle.device.specs.Ranges.{variant_of, operands_of}
+use Rattle.record.specs.declared.refusal.Refusal.{Refusal}
+use Rattle.record.specs.declared.refusal.Refusal.TheVariants as refusal
+use Rattle.record.specs.declared.refusal.WriteRefusal.{WriteRefusal}
+use Rattle.record.specs.declared.refusal.WriteRefusal.TheVariants.{Variant, Kind, Operand, Room, OneAddress}
 use Rattle.record.specs.Record.{encode_of}
+
+-- ---- a writer's result, and its code
+
+-- 0 where it wrote
+abbrev pub write_code_of : Result (Unit {0}) WriteRefusal → ℕ
+write_code_of (Ok done) = 0
+write_code_of (Err Variant) = 2
+write_code_of (Err Kind) = 3
+write_code_of (Err Operand) = 4
+write_code_of (Err Room) = 7
+write_code_of (Err OneAddress) = 9
+
+-- bytes that are no event's are not written
+abbrev pub of_record : Refusal → WriteRefusal
+of_record refusal.Kind = Kind
+of_record refusal.Operand = Operand
+
+-- ---- what is written
 
 -- a code, and the bytes that go to the front of the buffer
 pub record Writing : Type 0 where
@@ -16,6 +38,10 @@ writes bytes = record { code = 0; bytes = bytes }
 
 abbrev pub refuses : ℕ → Writing
 refuses code = record { code = code; bytes = [] }
+
+-- these bytes, but 7 for less room than n
+abbrev pub fitting_of : ℕ → ℕ → List ℕ → Writing
+fitting_of n room bytes = cond (leb n room) (writes bytes) (refuses 7)
 
 -- an event: 4 for an operand outside the table, then 7 for fewer than four bytes of room
 unfoldable pub write_event_of : Event → ℕ → Writing

@@ -1,46 +1,19 @@
 #![tactic(auto)]
 // Records: four bytes to an event or a refusal, and back; the header's six or seven bytes.
-ghost use Rattle.std.specs.Prelude.{◌≡◌, [], ◌∷◌};
-ghost use Rattle.record.specs.Record.{decode_of, code_of, admit_of, last_kind_of, encode_of};
-ghost use Rattle.record.specs.Writer.{count_bytes_of, header_of, one_address_of, WroteEvent, WroteHeader, WroteHeader2};
+ghost use Rattle.std.specs.Prelude.{◌≡◌, [], ◌∷◌, length};
+ghost use Rattle.record.specs.Record.{decode_of, admit_of, last_kind_of, encode_of};
+ghost use Rattle.record.specs.Writer.{Wrote, fitting_of, count_bytes_of, header_of, one_address_of, write_code_of, WroteEvent, WroteHeader, WroteHeader2};
 
 use device::Event;
 
-// Why a record is refused.
-#[derive(Clone, Copy)]
-pub enum Refusal {
-    Kind,
-    Operand,
-}
+mod refusal;
 
-// A record is either one event or a refusal.
-#[derive(Clone, Copy)]
-pub enum Record {
-    Valid(Event),
-    Refused(Refusal),
-}
+pub use refusal::{Refusal, WriteRefusal, write_code};
 
-// Code 0, 3 or 4.
-pub fn code(r: Record) -> u8
-    ensures { result ≡ code_of r }
-{
-    match r {
-        Record::Valid(_) => 0,
-        Record::Refused(why) => match why {
-            Refusal::Kind => 3,
-            Refusal::Operand => 4,
-        },
-    }
-}
-
-fn admit(good: bool, e: Event) -> Record
+fn admit(good: bool, e: Event) -> Result<Event, Refusal>
     ensures { result ≡ admit_of good e }
 {
-    if good {
-        Record::Valid(e)
-    } else {
-        Record::Refused(Refusal::Operand)
-    }
+    if good { Ok(e) } else { Err(Refusal::Operand) }
 }
 
 // Under a device count of 2 the kinds 08 and 09 follow 07.
@@ -51,11 +24,11 @@ fn last_kind(devices: u8) -> u8
 }
 
 // A record's four bytes, under a device count.
-pub fn decode(devices: u8, kind: u8, a: u8, b: u8, c: u8) -> Record
+pub fn decode(devices: u8, kind: u8, a: u8, b: u8, c: u8) -> Result<Event, Refusal>
     ensures { result ≡ decode_of devices kind a b c }
 {
     if last_kind(devices) < kind {
-        return Record::Refused(Refusal::Kind);
+        return Err(Refusal::Kind);
     }
     match kind {
         1 => admit(a <= 0x7F, Event::Write(a, b, c)),
@@ -67,7 +40,7 @@ pub fn decode(devices: u8, kind: u8, a: u8, b: u8, c: u8) -> Record
         7 => admit((a == 0) & ((b == 0) & (c == 0)), Event::PowerOn),
         8 => admit(c % 32 == 0, Event::ConvertSecond(a, b, c)),
         9 => admit((b == 0) & (c == 0), Event::OpenSecond(a)),
-        _ => Record::Refused(Refusal::Kind),
+        _ => Err(Refusal::Kind),
     }
 }
 
@@ -88,32 +61,35 @@ pub fn encode(e: Event) -> [u8; 4]
     }
 }
 
-// The event's four bytes to the front of the room: 4 for an operand outside the table, then 7 for fewer than four bytes.
-pub fn write_event(e: Event, room: &mut [u8]) -> u8
-    ensures { WroteEvent e result room.old room.new }
+// The bytes to the front of the room, if they fit.
+fn put(bytes: &[u8], room: &mut [u8]) -> Result<(), WriteRefusal>
+    ensures { Wrote (fitting_of (length bytes.now) (length room.old) bytes.now) (write_code_of result) room.old room.new }
+{
+    let size = bytes.len();
+    if room.len() < size {
+        return Err(WriteRefusal::Room);
+    }
+    room[..size].copy_from_slice(bytes);
+    Ok(())
+}
+
+// The event's four bytes to the front of the room: Operand for one outside the table, then Room for fewer than four bytes.
+pub fn write_event(e: Event, room: &mut [u8]) -> Result<(), WriteRefusal>
+    ensures { WroteEvent e (write_code_of result) room.old room.new }
 {
     if !device::ranges::operands(e) {
-        return 4;
+        return Err(WriteRefusal::Operand);
     }
-    if room.len() < 4 {
-        return 7;
-    }
-    let q = encode(e);
-    room[..4].copy_from_slice(&q);
-    0
+    put(&encode(e), room)
 }
 
 fn count_bytes(count: u32) -> [u8; 4]
     ensures { result ≡ count_bytes_of count }
 {
-    [
-        (count / 0x1000000 % 0x100) as u8,
-        (count / 0x10000 % 0x100) as u8,
-        (count / 0x100 % 0x100) as u8,
-        (count % 0x100) as u8,
-    ]
+    count.to_be_bytes()
 }
 
+// Two functions for two sizes: no const parameter is computed from another.
 fn header(variant: u8, count: u32) -> [u8; 6]
     ensures { result ≡ header_of (variant ∷ []) count }
 {
@@ -128,19 +104,14 @@ fn header_2(first: u8, second: u8, count: u32) -> [u8; 7]
     [2, first, second, n[0], n[1], n[2], n[3]]
 }
 
-// A header of one device to the front of the room: 2 for a variant other than 1 to 3, then 7 for fewer than six bytes.
-pub fn write_header(variant: u8, count: u32, room: &mut [u8]) -> u8
-    ensures { WroteHeader variant count result room.old room.new }
+// A header of one device to the front of the room: Variant for one other than 1 to 3, then Room for fewer than six bytes.
+pub fn write_header(variant: u8, count: u32, room: &mut [u8]) -> Result<(), WriteRefusal>
+    ensures { WroteHeader variant count (write_code_of result) room.old room.new }
 {
     if !device::ranges::variant(variant) {
-        return 2;
+        return Err(WriteRefusal::Variant);
     }
-    if room.len() < 6 {
-        return 7;
-    }
-    let q = header(variant, count);
-    room[..6].copy_from_slice(&q);
-    0
+    put(&header(variant, count), room)
 }
 
 fn one_address(first: u8, second: u8) -> bool
@@ -149,20 +120,20 @@ fn one_address(first: u8, second: u8) -> bool
     registers::address(first) == registers::address(second)
 }
 
-// A header of two devices: 2 for a variant other than 1 to 3, then 9 where both have one address, then 7 for fewer than seven bytes.
-pub fn write_header_2(first: u8, second: u8, count: u32, room: &mut [u8]) -> u8
-    ensures { WroteHeader2 first second count result room.old room.new }
+// A header of two devices: Variant for one other than 1 to 3, then OneAddress where both have one, then Room for fewer than seven bytes.
+pub fn write_header_2(
+    first: u8,
+    second: u8,
+    count: u32,
+    room: &mut [u8],
+) -> Result<(), WriteRefusal>
+    ensures { WroteHeader2 first second count (write_code_of result) room.old room.new }
 {
     if !(device::ranges::variant(first) & device::ranges::variant(second)) {
-        return 2;
+        return Err(WriteRefusal::Variant);
     }
     if one_address(first, second) {
-        return 9;
+        return Err(WriteRefusal::OneAddress);
     }
-    if room.len() < 7 {
-        return 7;
-    }
-    let q = header_2(first, second, count);
-    room[..7].copy_from_slice(&q);
-    0
+    put(&header_2(first, second, count), room)
 }

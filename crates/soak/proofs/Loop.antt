@@ -11,9 +11,9 @@ use borrow.Author.Tests.{ltb-true, lt-ltb}
 use Rattle.laws.proofs.Choices.{clash, and_left, and_right}
 use Rattle.device.specs.declared.Device.{Device}
 use Rattle.device.specs.declared.Event.{Event}
-use Rattle.record.specs.declared.Record.{Record}
-use Rattle.record.specs.declared.Record.TheVariants.{Valid, Refused}
-use Rattle.record.specs.declared.Refusal.TheVariants.{Kind, Operand}
+use Rattle.record.specs.Record.{Record}
+use Rattle.std.specs.Prelude.{Ok, Err}
+use Rattle.record.specs.declared.refusal.Refusal.TheVariants.{Kind, Operand}
 use Rattle.record.specs.Record.{code_of}
 use Rattle.record.specs.Fours.{Quad, quads}
 use Rattle.soak.specs.declared.Soaked.{Soaked}
@@ -69,18 +69,18 @@ latest_first_lem (k ∷ a ∷ b ∷ c ∷ xs) (suc n) e =
 
 pub record EventOf (r : Record) : Type 0 where
   pub event : Event
-  pub is : r ≡ Valid event
+  pub is : r ≡ Ok event
 
 pub valid : (r : Record) → code_of r ≡ 0 → EventOf r
 unfolding code_of
-valid (Valid e) z = record { event = e; is = refl }
-valid (Refused Kind) z = absurd (omega arith)
-valid (Refused Operand) z = absurd (omega arith)
+valid (Ok e) z = record { event = e; is = refl }
+valid (Err Kind) z = absurd (omega arith)
+valid (Err Operand) z = absurd (omega arith)
 
 met_refused : (r : Record) → (code_of r ≡ 0 → ⊥) → (further : Event → Soaked) (read : ℕ) → on_met r further read ≡ refuses_of (code_of r) read
 unfolding code_of
-met_refused (Valid e) z further read = absurd (z refl)
-met_refused (Refused why) z further read = refl
+met_refused (Ok e) z further read = absurd (z refl)
+met_refused (Err why) z further read = refl
 
 module _ (d : Device) (read : List Event) where
   pub back_decided : (qs : List Quad) → both_decided d read ≡ true → back_of d read qs ≡ answers_of d read
@@ -93,7 +93,7 @@ module _ (d : Device) (read : List Event) where
   unfolding back_of
   back_refused q qs b z = rw b (met_refused (met_of q) z (λ (e : Event). back_of d (e ∷ read) qs) (length read + 1))
 
-  pub back_met : (q : Quad) (qs : List Quad) (e : Event) → both_decided d read ≡ false → met_of q ≡ Valid e → back_of d read (q ∷ qs) ≡ back_of d (e ∷ read) qs
+  pub back_met : (q : Quad) (qs : List Quad) (e : Event) → both_decided d read ≡ false → met_of q ≡ Ok e → back_of d read (q ∷ qs) ≡ back_of d (e ∷ read) qs
   unfolding back_of
   back_met q qs e b m = rw (b, m)
 

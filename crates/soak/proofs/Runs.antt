@@ -27,8 +27,8 @@ use Rattle.device.specs.Step.{effect_of, step_of}
 use Rattle.device.specs.Run.{after_of}
 use Rattle.device.proofs.InRange.{named, of_named}
 use Rattle.device.proofs.Steps.{step_effect, ranged_after, variant_after}
-use Rattle.record.specs.declared.Record.{Record}
-use Rattle.record.specs.declared.Record.TheVariants.{Valid}
+use Rattle.record.specs.Record.{Record}
+use Rattle.std.specs.Prelude.{Ok}
 use Rattle.record.specs.Record.{encode_of}
 use Rattle.record.specs.Fours.{Quad, quad_of}
 use Rattle.record.proofs.RoundTrip.{only_those}
@@ -111,13 +111,13 @@ does_by (ConvertSecond x y z) kind a b c p k h d r = clash (rw (ap (λ (l : List
 does_by (OpenSecond x) kind a b c p k h d r = clash (rw (ap (λ (l : List ℕ). get_or l 0 0) p) at k)
 
 -- what is met as an event is of kind 05 or 06, and read under a device count of 1
-pub met_read : (q : Quad) (e : Event) → met_of q ≡ Valid e → ((eqb q.kind 0x05 || eqb q.kind 0x06) ≡ true) × (quad_of 1 q ≡ Valid e)
+pub met_read : (q : Quad) (e : Event) → met_of q ≡ Ok e → ((eqb q.kind 0x05 || eqb q.kind 0x06) ≡ true) × (quad_of 1 q ≡ Ok e)
 unfolding met_of
 met_read q e =
-    cond_ind (λ (r : Record). r ≡ Valid e → ((eqb q.kind 0x05 || eqb q.kind 0x06) ≡ true) × (quad_of 1 q ≡ Valid e))
+    cond_ind (λ (r : Record). r ≡ Ok e → ((eqb q.kind 0x05 || eqb q.kind 0x06) ≡ true) × (quad_of 1 q ≡ Ok e))
     (eqb q.kind 0x05 || eqb q.kind 0x06) (λ k p. (k, p)) (λ k p. let z : ◌≡◌ {A = ℕ} 0 1 = cc in absurd (omega arith))
 
-unfoldable pub converts : (q : Quad) (e : Event) → met_of q ≡ Valid e → Converts e
+unfoldable pub converts : (q : Quad) (e : Event) → met_of q ≡ Ok e → Converts e
 converts q e p =
     let read = met_read q e p in
     let told = only_those 1 q.kind q.a q.b q.c e read.1 in

@@ -9,9 +9,9 @@ use Rattle.device.specs.Pins.{tcrit_of}
 use Rattle.device.specs.Bus.{standby_of}
 use Rattle.device.specs.Ranges.{all_true, variant_of, ranged_of}
 use Rattle.device.specs.Run.{after_of}
-use Rattle.record.specs.declared.Record.{Record}
-use Rattle.record.specs.declared.Record.TheVariants.{Valid, Refused}
-use Rattle.record.specs.declared.Refusal.TheVariants.{Kind}
+use Rattle.record.specs.Record.{Record}
+use Rattle.std.specs.Prelude.{Ok, Err}
+use Rattle.record.specs.declared.refusal.Refusal.TheVariants.{Kind}
 use Rattle.record.specs.Record.{code_of}
 use Rattle.record.specs.Fours.{Quad, quads, quad_of}
 use Rattle.soak.specs.declared.Soaked.{Soaked}
@@ -29,7 +29,7 @@ pub record Running (d : Device) : Type 0 where
 -- a valid 05 or 06 is its event. Another kind is refused as such, 3, whatever its operands, 08 and 09 too; a 05 or 06 that breaks document 01's table is
 -- refused for its operand, 4
 unfoldable pub met_of : Quad → Record
-met_of q = cond (eqb q.kind 0x05 || eqb q.kind 0x06) (quad_of 1 q) (Refused Kind)
+met_of q = cond (eqb q.kind 0x05 || eqb q.kind 0x06) (quad_of 1 q) (Err Kind)
 
 -- the records of the stretch, the latest first
 abbrev pub latest_first : List ℕ → List Quad
@@ -95,8 +95,8 @@ answers_of d read = record { code = 0; pulled = tcrit_of (after_of d read); read
 
 -- at a valid 05 or 06 the reading goes on; any other record is refused, and counted among those read
 abbrev pub on_met : Record → (Event → Soaked) → ℕ → Soaked
-on_met (Valid e) further read = further e
-on_met (Refused why) further read = refuses_of (code_of (Refused why)) read
+on_met (Ok e) further read = further e
+on_met (Err why) further read = refuses_of (code_of (Err why)) read
 
 -- what is read so far, the earliest first, and the records before it, the latest first. Only records actually read are judged
 unfoldable pub back_of : Device → List Event → List Quad → Soaked

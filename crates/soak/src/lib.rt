@@ -10,7 +10,7 @@ ghost use Rattle.soak.specs.Ends.{quad, remote_of, began_of, made_of, through_of
 
 use conversion::Sensed;
 use device::Device;
-use record::{Record, Refusal};
+use record::Refusal;
 use registers::bits;
 
 // The kinds that a soak is made of.
@@ -58,9 +58,12 @@ fn judged(kind: u8, a: u8, b: u8, c: u8) -> u8
     ensures { result ≡ code_of (met_of (quad kind a b c)) }
 {
     if (kind == CONVERSION) | (kind == OPEN) {
-        return record::code(record::decode(1, kind, a, b, c));
+        return match record::decode(1, kind, a, b, c) {
+            Ok(_) => 0,
+            Err(why) => u8::from(why),
+        };
     }
-    record::code(Record::Refused(Refusal::Kind))
+    u8::from(Refusal::Kind)
 }
 
 // P2: the remote reading of a 05 or 06, in eighths.

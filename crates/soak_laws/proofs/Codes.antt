@@ -14,9 +14,9 @@ use Rattle.laws.proofs.Choices.{by_test}
 use Rattle.laws.proofs.Exactly.{by_lines}
 use Rattle.device.specs.declared.Device.{Device}
 use Rattle.device.specs.declared.Event.{Event}
-use Rattle.record.specs.declared.Record.TheVariants.{Refused}
-use Rattle.record.specs.declared.Refusal.{Refusal}
-use Rattle.record.specs.declared.Refusal.TheVariants.{Kind, Operand}
+use Rattle.std.specs.Prelude.{Err}
+use Rattle.record.specs.declared.refusal.Refusal.{Refusal}
+use Rattle.record.specs.declared.refusal.Refusal.TheVariants.{Kind, Operand}
 use Rattle.record.specs.Record.{code_of}
 use Rattle.record.specs.Fours.{Quad}
 use Rattle.soak.specs.declared.Soaked.{Soaked}
@@ -37,8 +37,8 @@ module _ (d : Device) where
     met : Quad
     why : Refusal
     there : drop later qs ≡ met ∷ earlier
-    refusal : met_of met ≡ Refused why
-    code : r.code ≡ code_of (Refused why)
+    refusal : met_of met ≡ Err why
+    code : r.code ≡ code_of (Err why)
     counted : r.read ≡ length read + suc later
 
   abbrev Coded : List Event → List Quad → Soaked → Type 0
@@ -82,8 +82,8 @@ module _ (d : Device) where
 -- ---- the table
 
 module _ (d : Device) (records : List ℕ) where
-  met_code : (readable : Readable d records) (q : Quad) → Meets d records q → (why : Refusal) → met_of q ≡ Refused why
-      → (soak_of d records).code ≡ code_of (Refused why)
+  met_code : (readable : Readable d records) (q : Quad) → Meets d records q → (why : Refusal) → met_of q ≡ Err why
+      → (soak_of d records).code ≡ code_of (Err why)
   met_code readable q m why p =
       ap (λ (r : Soaked). r.code) (reads_back d records readable.running readable.whole)
       ∙ met_at d m.later (latest_first records) [] q m.earlier m.there
@@ -124,9 +124,9 @@ module _ (d : Device) (records : List ℕ) where
   unfolding code_of
   refuses readable r = rw r.code (by_why r.why refl)
     where
-      by_why : (why : Refusal) → r.why ≡ why → Gives d records (code_of (Refused why))
-      by_why Kind e = kind readable r.met r.meets (r.refusal ∙ ap (λ (w : Refusal). Refused w) e)
-      by_why Operand e = operand readable r.met r.meets (r.refusal ∙ ap (λ (w : Refusal). Refused w) e)
+      by_why : (why : Refusal) → r.why ≡ why → Gives d records (code_of (Err why))
+      by_why Kind e = kind readable r.met r.meets (r.refusal ∙ ap (λ (w : Refusal). Err w) e)
+      by_why Operand e = operand readable r.met r.meets (r.refusal ∙ ap (λ (w : Refusal). Err w) e)
 
   reads : Readable d records → Gives d records (soak_of d records).code
   reads readable =

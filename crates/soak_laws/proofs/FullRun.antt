@@ -15,7 +15,7 @@ use Rattle.device.specs.Pins.{tcrit_of}
 use Rattle.device.specs.Step.{step_of}
 use Rattle.device.specs.Run.{replies_of, after_of}
 use Rattle.device_laws.proofs.Alerts.{first_byte}
-use Rattle.record.specs.declared.Record.{Record}
+use Rattle.record.specs.Record.{Record}
 use Rattle.record.specs.Fours.{Quad, quads, event_then, events_in}
 use Rattle.soak.specs.declared.Soaked.{Soaked}
 use Rattle.soak.specs.Soak.{Running, met_of, latest_first, both_decided, back_of, soak_of}

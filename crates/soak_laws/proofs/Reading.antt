@@ -20,7 +20,7 @@ use Rattle.device.specs.Pins.{tcrit_of}
 use Rattle.device.specs.Bus.{standby_of}
 use Rattle.device.specs.Ranges.{variant_of, ranged_of}
 use Rattle.device.specs.Run.{after_of}
-use Rattle.record.specs.declared.Record.TheVariants.{Valid}
+use Rattle.std.specs.Prelude.{Ok}
 use Rattle.record.specs.Fours.{Quad, quads}
 use Rattle.soak.specs.declared.Soaked.{Soaked}
 use Rattle.soak.specs.Soak.{Running, met_of, latest_first, Decided, decided_of, both_decided, refuses_of, answers_of, back_of, soak_of}
@@ -64,7 +64,7 @@ module _ (d : Device) where
       refused read q qs y zero h = (tt, y)
       refused read q qs y (suc j) h = absurd (omega (arith, h))
 
-      further : (read : List Event) (q : Quad) (qs : List Quad) (e : Event) (r : Soaked) → both_decided d read ≡ false → met_of q ≡ Valid e
+      further : (read : List Event) (q : Quad) (qs : List Quad) (e : Event) (r : Soaked) → both_decided d read ≡ false → met_of q ≡ Ok e
           → Further (e ∷ read) qs r → Further read (q ∷ qs) r
       further read q qs e r y m go zero h = (tt, y)
       further read q qs e r y m go (suc j) h =
@@ -94,7 +94,7 @@ module _ (d : Device) where
       decided : (read : List Event) (q : Quad) (qs : List Quad) → both_decided d read ≡ true → (n : ℕ) → n ≡ 0 → Told read (q ∷ qs) (answers_of d read) n
       decided read q qs y n h = rw h (record { conversions = tt; decided = λ k. y; pulled = refl })
 
-      further : (read : List Event) (q : Quad) (qs : List Quad) (e : Event) (r : Soaked) → met_of q ≡ Valid e → Answered (e ∷ read) qs r → r.code ≡ 0
+      further : (read : List Event) (q : Quad) (qs : List Quad) (e : Event) (r : Soaked) → met_of q ≡ Ok e → Answered (e ∷ read) qs r → r.code ≡ 0
           → (n : ℕ) → r.read ≡ length read + n → Told read (q ∷ qs) r n
       further read q qs e r m go z zero h = absurd (omega (arith, h, go.0))
       further read q qs e r m go z (suc n) h =

@@ -12,10 +12,10 @@ use Rattle.device.specs.declared.Device.{Device}
 use Rattle.device.specs.declared.Event.{Event}
 use Rattle.device.specs.Step.{step_of}
 use Rattle.device.specs.Run.{after_of}
-use Rattle.record.specs.declared.Record.{Record}
-use Rattle.record.specs.declared.Record.TheVariants.{Valid, Refused}
-use Rattle.record.specs.declared.Refusal.{Refusal}
-use Rattle.record.specs.declared.Refusal.TheVariants.{Kind, Operand}
+use Rattle.record.specs.Record.{Record}
+use Rattle.std.specs.Prelude.{Ok, Err}
+use Rattle.record.specs.declared.refusal.Refusal.{Refusal}
+use Rattle.record.specs.declared.refusal.Refusal.TheVariants.{Kind, Operand}
 use Rattle.record.specs.Record.{code_of}
 use Rattle.record.specs.Fours.{Quad, quads, quad_of, event_then, events_in}
 use Rattle.soak.specs.declared.Soaked.{Soaked}
@@ -26,17 +26,17 @@ use Rattle.soak_laws.specs.Stretch.{Whole, AllConversions}
 
 -- ---- a record
 
-pub by_record : {P : Type 0} (r : Record) → ((e : Event) → r ≡ Valid e → P) → ((why : Refusal) → r ≡ Refused why → P) → P
-by_record (Valid e) f g = f e refl
-by_record (Refused why) f g = g why refl
+pub by_record : {P : Type 0} (r : Record) → ((e : Event) → r ≡ Ok e → P) → ((why : Refusal) → r ≡ Err why → P) → P
+by_record (Ok e) f g = f e refl
+by_record (Err why) f g = g why refl
 
 -- a refusal's code is not 0
-pub refusal_code : (why : Refusal) → code_of (Refused why) ≡ 0 → ⊥
+pub refusal_code : (why : Refusal) → code_of (Err why) ≡ 0 → ⊥
 unfolding code_of
 refusal_code Kind e = absurd (omega arith)
 refusal_code Operand e = absurd (omega arith)
 
-pub valid_code : (e : Event) → code_of (Valid e) ≡ 0
+pub valid_code : (e : Event) → code_of (Ok e) ≡ 0
 unfolding code_of
 valid_code e = refl
 
@@ -45,9 +45,9 @@ valid_code e = refl
 module _ (d : Device) (P : List Event → List Quad → Soaked → Type 0)
     (start : (read : List Event) → P read [] (answers_of d read))
     (decided : (read : List Event) (q : Quad) (qs : List Quad) → both_decided d read ≡ true → P read (q ∷ qs) (answers_of d read))
-    (refused : (read : List Event) (q : Quad) (qs : List Quad) (why : Refusal) → both_decided d read ≡ false → met_of q ≡ Refused why
-    → P read (q ∷ qs) (refuses_of (code_of (Refused why)) (length read + 1)))
-    (further : (read : List Event) (q : Quad) (qs : List Quad) (e : Event) (r : Soaked) → both_decided d read ≡ false → met_of q ≡ Valid e
+    (refused : (read : List Event) (q : Quad) (qs : List Quad) (why : Refusal) → both_decided d read ≡ false → met_of q ≡ Err why
+    → P read (q ∷ qs) (refuses_of (code_of (Err why)) (length read + 1)))
+    (further : (read : List Event) (q : Quad) (qs : List Quad) (e : Event) (r : Soaked) → both_decided d read ≡ false → met_of q ≡ Ok e
     → P (e ∷ read) qs r → P read (q ∷ qs) r) where
   pub back_ind : (qs : List Quad) (read : List Event) → P read qs (back_of d read qs)
   back_ind [] read = rw (back_none d read) (start read)
@@ -61,15 +61,15 @@ module _ (d : Device) (P : List Event → List Quad → Soaked → Type 0)
 -- ---- the records read
 
 abbrev pub onto_met : Record → (Event → List Event) → List Event → List Event
-onto_met (Valid e) further read = further e
-onto_met (Refused why) further read = read
+onto_met (Ok e) further read = further e
+onto_met (Err why) further read = read
 
 -- the events of records, the latest first, put before those read
 abbrev pub onto : List Quad → List Event → List Event
 onto [] read = read
 onto (q ∷ qs) read = onto_met (met_of q) (λ (e : Event). onto qs (e ∷ read)) read
 
-pub onto_met_lem : (q : Quad) (qs : List Quad) (read : List Event) (e : Event) → met_of q ≡ Valid e → onto (q ∷ qs) read ≡ onto qs (e ∷ read)
+pub onto_met_lem : (q : Quad) (qs : List Quad) (read : List Event) (e : Event) → met_of q ≡ Ok e → onto (q ∷ qs) read ≡ onto qs (e ∷ read)
 onto_met_lem q qs read e m = rw m
 
 -- they are those of the records in order
@@ -77,7 +77,7 @@ pub onto_events : (qs : List Quad) → AllConversions qs → (before : List Quad
 onto_events [] all before = refl
 onto_events (q ∷ qs) all before =
     let v = valid (met_of q) all.0 in
-    let read : quad_of 1 q ≡ Valid v.event = (met_read q v.event v.is).1 in
+    let read : quad_of 1 q ≡ Ok v.event = (met_read q v.event v.is).1 in
     onto_met_lem q qs (events_in 1 before) v.event v.is
     ∙ ap (onto qs) (ap (λ (r : Record). event_then r (events_in 1 before)) (sym read))
     ∙ onto_events qs all.1 (q ∷ before)

@@ -7,9 +7,9 @@ use Rattle.device.specs.declared.Event.{Event}
 use Rattle.device.specs.Bus.{standby_of}
 use Rattle.device.specs.Ranges.{variant_of, ranged_of}
 use Rattle.device.specs.Run.{Reply}
-use Rattle.record.specs.declared.Record.TheVariants.{Refused}
-use Rattle.record.specs.declared.Refusal.{Refusal}
-use Rattle.record.specs.declared.Refusal.TheVariants.{Kind, Operand}
+use Rattle.std.specs.Prelude.{Err}
+use Rattle.record.specs.declared.refusal.Refusal.{Refusal}
+use Rattle.record.specs.declared.refusal.Refusal.TheVariants.{Kind, Operand}
 use Rattle.record.specs.Record.{code_of}
 use Rattle.record.specs.Fours.{Quad, quads, events_in}
 use Rattle.soak.specs.Soak.{Running, met_of, latest_first, Decided, soak_of}
@@ -79,8 +79,8 @@ pub record RefusedAt (d : Device) (records : List ℕ) : Type 0 where
   pub met : Quad
   pub meets : Meets d records met
   pub why : Refusal
-  pub refusal : met_of met ≡ Refused why
-  pub code : (soak_of d records).code ≡ code_of (Refused why)
+  pub refusal : met_of met ≡ Err why
+  pub code : (soak_of d records).code ≡ code_of (Err why)
   pub read : (soak_of d records).read ≡ suc meets.later
 
 pub data Gives (d : Device) (records : List ℕ) : ℕ → Type 0 where
@@ -91,9 +91,9 @@ pub data Gives (d : Device) (records : List ℕ) : ℕ → Type 0 where
   -- 4: the length is no multiple of four
   uneven : Running d → (Whole records → ⊥) → Gives d records 4
   -- 3: the first record met that is no valid 05 or 06 is of another kind
-  kind : Readable d records → (q : Quad) → Meets d records q → met_of q ≡ Refused Kind → Gives d records 3
+  kind : Readable d records → (q : Quad) → Meets d records q → met_of q ≡ Err Kind → Gives d records 3
   -- 4: it is a 05 or 06 that breaks the table
-  operand : Readable d records → (q : Quad) → Meets d records q → met_of q ≡ Refused Operand → Gives d records 4
+  operand : Readable d records → (q : Quad) → Meets d records q → met_of q ≡ Err Operand → Gives d records 4
   -- 0: none of the others applies
   answered : Readable d records → ((q : Quad) → Meets d records q → code_of (met_of q) ≡ 0) → Gives d records 0
 

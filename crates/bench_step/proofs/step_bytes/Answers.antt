@@ -7,4 +7,4 @@ returns-in_default c =
     rw (c.refused.ensures, c.code.ensures, c.in_default.is) (sym (is_refused _ _ _ _ _ _ (sym c.decode-r.ensures ∙ c.in_default.is)))
 
 pub returns : goal.returns
-returns c = rw c.step-s.ensures (sym (is_step _ _ _ _ _ _ (sym c.decode-r.ensures ∙ c.in-Valid.is)))
+returns c = rw c.step-s.ensures (sym (is_step _ _ _ _ _ _ (sym c.decode-r.ensures ∙ c.in-Ok.is)))

@@ -2,8 +2,8 @@ use Prim.Native.Nat.{ℕ}
 use mathlib.Core.Path.{◌≡◌, sym}
 use native.Mathlib.Omega.{arith}
 use borrow.Author.Tests.{ne_eqb}
-use Rattle.record.specs.declared.Record.TheVariants.{Refused}
-use Rattle.record.specs.declared.Refusal.TheVariants.{Kind}
+use Rattle.std.specs.Prelude.{Err}
+use Rattle.record.specs.declared.refusal.Refusal.TheVariants.{Kind}
 use Rattle.record.specs.Record.{decode_of}
 use Rattle.device.specs.Ranges.{operands_of}
 use Rattle.record.proofs.Known.{past_last, of_two}
@@ -14,7 +14,7 @@ Not k kind = kind ≡ k → ⊥
 
 none_of_nine : (devices kind a b c : ℕ)
     → ((((((((Unit {0} × Not 1 kind) × Not 2 kind) × Not 3 kind) × Not 4 kind) × Not 5 kind) × Not 6 kind) × Not 7 kind) × Not 8 kind) × Not 9 kind
-    → decode_of devices kind a b c ≡ Refused Kind
+    → decode_of devices kind a b c ≡ Err Kind
 unfolding decode_of
 none_of_nine devices kind a b c n =
     let to6 = n.0.0.0 in

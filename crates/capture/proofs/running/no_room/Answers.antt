@@ -14,4 +14,4 @@ pub returns : goal.returns
 returns c = λ o input entry answers g l e n.
     let w = waiting c.args.s c.requires.in_range c.requires.waiting in
     rw c.report.ensures
-    (ends_full w g l _ (ap (decode_of _ _ _ _) e ∙ sym c.decode-r.ensures ∙ c.in-Valid.is) n)
+    (ends_full w g l _ (ap (decode_of _ _ _ _) e ∙ sym c.decode-r.ensures ∙ c.in-Ok.is) n)

@@ -11,8 +11,8 @@ use Rattle.device.specs.declared.Device.{Device}
 use Rattle.device.specs.declared.Event.{Event}
 use Rattle.device.specs.declared.Outcome.{Outcome}
 use Rattle.device.specs.Step.{effect_of, answer_of}
-use Rattle.record.specs.declared.Record.{Record}
-use Rattle.record.specs.declared.Record.TheVariants.{Valid}
+use Rattle.record.specs.Record.{Record}
+use Rattle.std.specs.Prelude.{Ok}
 use Rattle.record.specs.Record.{decode_of}
 use Rattle.pair.specs.declared.hand.Hand.{Hand}
 use Rattle.capture.specs.declared.Reader.{Reader}
@@ -29,7 +29,7 @@ stored : {s : Reader} {input before : List ℕ} {from start : ℕ} {answers : Li
     → Running s input before from start answers kind a b device done at written left
     → ((i : ℕ) → get_or input i 0 < 256)
     → {h : Hand} → h ≡ hand_at s → {r : Record} → r ≡ decode_of h.devices kind a b (get_or input at 0)
-    → {e : Event} → r ≡ Valid e → {o : Outcome} → o ≡ effect_of device e → {answer : ℕ} → answer ≡ answer_of o
+    → {e : Event} → r ≡ Ok e → {o : Outcome} → o ≡ effect_of device e → {answer : ℕ} → answer ≡ answer_of o
     → {part : List ℕ} → part ≡ bit_or answer h.lines ∷ o.byte ∷ drop 2 (take (length answers - written) (drop written answers))
     → Stepped s input before from start answers (put_mid written (length answers - written) answers part) o.device done at written left
 stored {s} {answers = answers} {kind = kind} {a = a} {b = b} {written = written} l small held e valid {o} did given {part} pair =
@@ -57,7 +57,7 @@ pub returns-then-left-eq0 : goal.returns-then-left-eq0
 returns-then-left-eq0 c =
     let s =
     stored c.loop-e.invariant (λ i. (c.type_inv.input i).fits)
-    c.taken-h.ensures c.decode-r.ensures c.in-Valid.is c.effect-o.ensures c.answer.ensures c.put_pair.ensures
+    c.taken-h.ensures c.decode-r.ensures c.in-Ok.is c.effect-o.ensures c.answer.ensures c.put_pair.ensures
     in
     rw (c.report.ensures, c.between.ensures, c.taken-h.ensures) s.last
 
@@ -65,7 +65,7 @@ pub returns-then-leaves : goal.returns-then-leaves
 returns-then-leaves c =
     let s =
     stored c.loop-e.invariant (λ i. (c.type_inv.input i).fits)
-    c.taken-h.ensures c.decode-r.ensures c.in-Valid.is c.effect-o.ensures c.answer.ensures c.put_pair.ensures
+    c.taken-h.ensures c.decode-r.ensures c.in-Ok.is c.effect-o.ensures c.answer.ensures c.put_pair.ensures
     in
     rw (c.report-then-leaves.ensures, c.carrying.ensures, c.taken-h.ensures) (s.leaves (omega arith))
 
@@ -73,6 +73,6 @@ pub loop-e-preserved : goal.loop-e-preserved
 loop-e-preserved c =
     let s =
     stored c.loop-e.invariant (λ i. (c.shared_slice_known-in-loop-e-1.given i).fits)
-    c.taken-h.ensures c.decode-r.ensures c.in-Valid.is c.effect-o.ensures c.answer.ensures c.put_pair.ensures
+    c.taken-h.ensures c.decode-r.ensures c.in-Ok.is c.effect-o.ensures c.answer.ensures c.put_pair.ensures
     in
     s.again (omega arith) (rw c.taken-h.ensures at (sym c.leaves.ensures ∙ c.if-leaves.false))
