@@ -3,3 +3,4 @@ pub mod JoinedByte
 pub mod AtHand
 pub mod Kept
 pub mod Heading
+pub mod Zeros

@@ -1,12 +1,13 @@
 // One device at hand, for as long as records name no other; the other is known by its address and its lines.
 ghost use Rattle.std.specs.Prelude.{◌≡◌};
 ghost use Rattle.pair.specs.Bus.{at_address_of};
-ghost use Rattle.pair.specs.Hand.{named_at, is_second, is_both, away_of, other_lines_of, others_of, hand_of, leaves_of, settled_of};
+ghost use Rattle.pair.specs.Hand.{named_at, away_of, other_lines_of, others_of, hand_of, leaves_of, settled_of};
 
 use super::{Bus, Named, picked, placed, response};
 use device::bus::ALERT_RESPONSE;
 
 // Kinds of records: up to RECEIVE they have an address, from CONVERSION_2 on they are the second device's.
+// Kept as numbers: an enum of kinds is no plainer, since these are bytes that no table has judged yet, compared by order for each record of the loop.
 const RECEIVE: u8 = 4;
 
 const CONVERSION: u8 = 5;
@@ -18,6 +19,7 @@ const POWER_ON: u8 = 7;
 const CONVERSION_2: u8 = 8;
 
 // How many devices, which is at hand, whether both restart, and of the other its address and its lines.
+// Kept as bools: picked_of, placed_of and the theorems of specs/ say by a Bool which device is meant.
 #[derive(Clone, Copy)]
 pub struct Hand {
     pub devices: u8,
@@ -30,15 +32,13 @@ pub struct Hand {
 fn at_address(bus: Bus, address: u8) -> Named
     ensures { result ≡ at_address_of bus address }
 {
-    let f = bus.first;
-    let s = bus.second;
-    if address == registers::address(f.variant) {
-        return Named::First;
+    if address == registers::address(bus.first.variant) {
+        Named::First
+    } else if address == registers::address(bus.second.variant) {
+        Named::Second
+    } else {
+        Named::Neither
     }
-    if address == registers::address(s.variant) {
-        return Named::Second;
-    }
-    Named::Neither
 }
 
 // Whom a record names, by its kind and its first operand.
@@ -48,42 +48,14 @@ fn named(bus: Bus, kind: u8, a: u8) -> Named
     if bus.devices != 2 {
         return Named::First;
     }
-    if kind <= RECEIVE {
-        if (kind == RECEIVE) & (a == ALERT_RESPONSE) {
-            return response::respondent(bus);
-        }
-        return at_address(bus, a);
+    if (kind == RECEIVE) & (a == ALERT_RESPONSE) {
+        return response::respondent(bus);
     }
-    if kind == POWER_ON {
-        return Named::Both;
-    }
-    if CONVERSION_2 <= kind {
-        Named::Second
-    } else {
-        Named::First
-    }
-}
-
-// The second is at hand; where neither is named, or both, the first is.
-fn names_second(n: Named) -> bool
-    ensures { result ≡ is_second n }
-{
-    match n {
-        Named::Neither => false,
-        Named::First => false,
-        Named::Second => true,
-        Named::Both => false,
-    }
-}
-
-fn names_both(n: Named) -> bool
-    ensures { result ≡ is_both n }
-{
-    match n {
-        Named::Neither => false,
-        Named::First => false,
-        Named::Second => false,
-        Named::Both => true,
+    match kind {
+        ..=RECEIVE => at_address(bus, a),
+        POWER_ON => Named::Both,
+        CONVERSION_2.. => Named::Second,
+        _ => Named::First,
     }
 }
 
@@ -91,8 +63,7 @@ fn names_both(n: Named) -> bool
 fn away(bus: Bus, second: bool) -> u8
     ensures { result ≡ away_of bus second }
 {
-    let d = picked(bus, !second);
-    registers::address(d.variant)
+    registers::address(picked(bus, !second).variant)
 }
 
 // The lines of the other, as bits of the first answer byte.
@@ -101,18 +72,19 @@ fn other_lines(bus: Bus, second: bool, restart: bool) -> u8
 {
     if (bus.devices == 2) & !restart {
         let d = picked(bus, !second);
-        return device::outputs::first(device::outputs::pins(d), false, false, false);
+        device::outputs::first(device::outputs::pins(d), false, false, false)
+    } else {
+        0
     }
-    0
 }
 
-// For a record whose kind and first operand are these.
+// For a record whose kind and first operand are these; where neither device is named, or both, the first is at hand.
 pub fn taken(bus: Bus, kind: u8, a: u8) -> Hand
     ensures { result ≡ hand_of bus kind a }
 {
     let n = named(bus, kind, a);
-    let second = names_second(n);
-    let restart = names_both(n);
+    let second = n == Named::Second;
+    let restart = n == Named::Both;
     Hand {
         devices: bus.devices,
         second,
@@ -149,8 +121,8 @@ pub fn settled(bus: Bus, restart: bool) -> Bus
     ensures { result ≡ settled_of bus restart }
 {
     if restart {
-        let d = bus.second;
-        return placed(bus, true, device::bus::powered(d.variant));
+        placed(bus, true, device::bus::powered(bus.second.variant))
+    } else {
+        bus
     }
-    bus
 }

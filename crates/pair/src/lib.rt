@@ -19,7 +19,7 @@ pub struct Bus {
 }
 
 // The devices that an event names.
-#[derive(Clone, Copy)]
+#[derive(Clone, Copy, PartialEq, Eq)]
 pub enum Named {
     Neither,
     First,

@@ -22,26 +22,22 @@ fn mask(low: bool, high: bool) -> u8
 fn lowest(mask: u8, low: Named, high: Named) -> Named
     ensures { result ≡ at_bit (count_trailing_zeros 8 mask) low high }
 {
-    let at = u8::trailing_zeros(mask);
-    if at == 0 {
-        return low;
+    match mask.trailing_zeros() {
+        0 => low,
+        1 => high,
+        _ => Named::Neither,
     }
-    if at == 1 {
-        return high;
-    }
-    Named::Neither
 }
 
 // The alerting device with the lowest address.
 pub fn respondent(bus: Bus) -> Named
     ensures { result ≡ respondent_of bus }
 {
-    let f = bus.first;
-    let s = bus.second;
-    let first = device::bus::responds(f);
-    let second = device::bus::responds(s);
-    if registers::address(f.variant) < registers::address(s.variant) {
-        return lowest(mask(first, second), Named::First, Named::Second);
+    let first = device::bus::responds(bus.first);
+    let second = device::bus::responds(bus.second);
+    if registers::address(bus.first.variant) < registers::address(bus.second.variant) {
+        lowest(mask(first, second), Named::First, Named::Second)
+    } else {
+        lowest(mask(second, first), Named::Second, Named::First)
     }
-    lowest(mask(second, first), Named::Second, Named::First)
 }

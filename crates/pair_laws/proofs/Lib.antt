@@ -5,4 +5,3 @@ pub mod Lines
 pub mod WhoAnswers
 pub mod OneDevice
 pub mod Stepping
-pub mod Zeros

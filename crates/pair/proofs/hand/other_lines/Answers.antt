@@ -5,6 +5,6 @@ pub returns-then-bus-restart : goal.returns-then-bus-restart
 unfolding other_lines_of
 returns-then-bus-restart c = rw (c.first.ensures, c.pins.ensures, c.picked-d.ensures, c.if-bus-restart.true)
 
-pub returns : goal.returns
+pub returns-else-bus-restart : goal.returns-else-bus-restart
 unfolding other_lines_of
-returns c = rw c.if-bus-restart.false
+returns-else-bus-restart c = rw c.if-bus-restart.false

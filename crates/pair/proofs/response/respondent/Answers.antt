@@ -11,9 +11,9 @@ returns-then-address c =
     ∙ rw (c.mask.ensures, ← c.responds-second.ensures, ← c.responds-first.ensures, ← c.address-2.ensures, ← c.address.ensures)
     (rw (lt-ltb _ _ c.if-address.true) (first_low c.responds-first.result c.responds-second.result))
 
-pub returns : goal.returns
+pub returns-else-address : goal.returns-else-address
 unfolding respondent_of
-returns c =
-    c.lowest-2.ensures
-    ∙ rw (c.mask-2.ensures, ← c.responds-second.ensures, ← c.responds-first.ensures, ← c.address-2.ensures, ← c.address.ensures)
+returns-else-address c =
+    c.lowest-else-address.ensures
+    ∙ rw (c.mask-else-address.ensures, ← c.responds-second.ensures, ← c.responds-first.ensures, ← c.address-2.ensures, ← c.address.ensures)
     (rw (le-ltb _ _ c.if-address.false) (second_low c.responds-first.result c.responds-second.result))
