@@ -33,7 +33,8 @@ EDITS = ROOT / "misreadings"
 LIST = ROOT / "docs/MISREADINGS.md"
 HEAD = re.compile(r"# (.+); noticed by: (.+)")
 PLACE = re.compile(r"(\w+/(?:specs|proofs)/[\w/]+\.antt): (.+)")
-FUNCTION = re.compile(r"impl\b|(?:pub(?:\([^)]*\))? )?(?:extern \"C\" )?fn \w+")
+# a function, or the functions of an `impl`; of the view that a type's own `impl Model` gives the definitions speak
+FUNCTION = re.compile(r"(?:pub(?:\([^)]*\))? )?(?:extern \"C\" )?fn \w+|impl\b(?!.* Model for )")
 DECLARED = re.compile(r"^ *(?!let |module |use |--|→)(?:(?:abbrev|unfoldable) )?(?:pub )?(?:(?:record|data) )?([^\s:(){}]+)(?: [^:\n]*)? :", re.M)
 ERROR = re.compile(r"^(\S+?):(\d+):\d+: error(?:\[[^]]*\])?: (?:`([^`]*)`: )?(.*)$", re.M)
 # the files of a function's proof, each in a folder of its own below proofs/

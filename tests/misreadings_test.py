@@ -43,6 +43,23 @@ pub extern "C" fn step(d: Device) -> Pair
 
 pub(crate) fn none() {}
 
+// Its number.
+impl From<Pair> for u8 {
+    ghost from_gives = { λ pair number. number ≡ pair.variant };
+
+    fn from(pair: Pair) -> u8 {
+        pair.variant
+    }
+}
+
+impl<T> Kept<T> {
+    pub fn get(&self) -> u8
+        ensures { result ≡ 0 }
+    {
+        0
+    }
+}
+
 fn last(d: Device) -> u8
 {
     STATUS
@@ -72,6 +89,8 @@ pub struct Pair {
 const SIZE: usize = 14;
 
 const KEPT: u8 = bits::ALL_KEPT;
+
+
 
 
 
