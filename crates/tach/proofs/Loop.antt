@@ -1,7 +1,10 @@
 -- The loop over the stamps: what is gathered so far and what the stamps behind it give are together what the whole list gives.
 -- Assumes nothing.
-use Rattle.std.proofs.Common.{◌≡◌, ℕ, ◌+◌, ◌<◌, ◌≤◌, min, max, Bool, true, false, cond, eqb, ltb}
-use Rattle.std.proofs.Common.{List, [], ◌∷◌, map, length, get_or, drop, sym, refl, ◌∙◌, add-one, arith, drop_of_length-le, drop-cons, le-ltb, eq-eqb, ne_eqb}
+use Rattle.std.proofs.Common.{◌≡◌, ℕ, ◌+◌, ◌-◌, ◌<◌, ◌≤◌, min, max, Bool, true, false, cond, eqb, ltb}
+use Rattle.std.proofs.Common.{List, [], ◌∷◌, map, length, get_or, take, drop, length-drop, sym, refl, ap, ◌∙◌, add-one, arith}
+use Rattle.std.proofs.Common.{drop_of_length-le, drop-cons, le-ltb, eq-eqb, ne_eqb}
+use Rattle.std.proofs.lemmas.List.{take_all}
+use mir.Val.{bool_byte}
 use Rattle.tach.specs.Stamps.{behind, period_of, ticks_a_minute, speed_of, speeds_of}
 use Rattle.tach.specs.Tach.{slowest_of, fastest_of, under_of, some_of, equal_of, refuses_of, tach_of}
 
@@ -22,35 +25,10 @@ pub record Going (stamps : List ℕ) (floor earlier slowest fastest under i : �
 
 -- ---- numbers
 
-min_min : (a b c : ℕ) → min a (min b c) ≡ min (min a b) c
-min_min a b c = omega arith
-
-max_max : (a b c : ℕ) → max a (max b c) ≡ max (max a b) c
-max_max a b c = omega arith
-
-sum_sum : (a b c : ℕ) → a + (b + c) ≡ (a + b) + c
-sum_sum a b c = omega arith
-
-min_top : (a : ℕ) → a ≤ ticks_a_minute → min a ticks_a_minute ≡ a
-min_top a h = omega arith
-
-top_min : (a : ℕ) → a ≤ ticks_a_minute → a ≡ min ticks_a_minute a
-top_min a h = omega arith
-
-min_under : (a b : ℕ) → a ≤ ticks_a_minute → min a b ≤ ticks_a_minute
-min_under a b h = omega arith
-
-max_zero : (a : ℕ) → max a 0 ≡ a
-max_zero a = omega arith
-
-zero_max : (a : ℕ) → a ≡ max 0 a
-zero_max a = omega arith
-
-sum_zero : (a : ℕ) → a + 0 ≡ a
-sum_zero a = omega arith
-
-zero_sum : (a : ℕ) → a ≡ 0 + a
-zero_sum a = omega arith
+-- a test as a number, as `u64::from` makes it
+pub number_of : (t : Bool) → bool_byte t ≡ cond t 1 0
+number_of true = refl
+number_of false = refl
 
 pub one_at_most : (t : Bool) → cond t 1 0 ≤ 1
 one_at_most true = omega arith
@@ -75,10 +53,24 @@ start (a ∷ rest) floor h =
       few = omega arith;
       top = omega arith;
       apart = refl;
-      slow = top_min (slowest_of (speeds_behind a rest)) (slowest_top (speeds_behind a rest));
-      fast = zero_max (fastest_of (speeds_behind a rest));
-      low = zero_sum (under_of floor (speeds_behind a rest));
+      slow = omega (arith, slowest_top (speeds_behind a rest));
+      fast = omega arith;
+      low = omega arith;
     }
+
+-- the stamps behind the first, as `for` goes over them
+all_later : (stamps : List ℕ) → take (length stamps - 1) (drop 1 stamps) ≡ drop 1 stamps
+all_later stamps = take_all (length stamps - 1) (drop 1 stamps) (omega (arith, length-drop 1 stamps))
+
+pub later_many : (stamps : List ℕ) → length (take (length stamps - 1) (drop 1 stamps)) ≡ length stamps - 1
+later_many stamps = ap length (all_later stamps) ∙ length-drop 1 stamps
+
+behind_first : (stamps : List ℕ) (i : ℕ) → get_or (drop 1 stamps) i 0 ≡ get_or stamps (i + 1) 0
+behind_first [] i = refl
+behind_first (a ∷ rest) i = rw add-one
+
+pub later_at : (stamps : List ℕ) (i : ℕ) → get_or (take (length stamps - 1) (drop 1 stamps)) i 0 ≡ get_or stamps (i + 1) 0
+later_at stamps i = ap (λ (l : List ℕ). get_or l i 0) (all_later stamps) ∙ behind_first stamps i
 
 module _ {stamps : List ℕ} {floor earlier slowest fastest under i : ℕ} (g : Going stamps floor earlier slowest fastest under i) where
   pub equal_next : i < length stamps → get_or stamps i 0 ≡ earlier → tach_of stamps floor ≡ refuses_of 13
@@ -95,15 +87,18 @@ module _ {stamps : List ℕ} {floor earlier slowest fastest under i : ℕ} (g : 
         many = g.many;
         within = omega arith;
         few = omega (arith, g.few, one_at_most (ltb v floor));
-        top = min_under slowest v g.top;
+        top = omega (arith, g.top);
         apart = g.apart ∙ rw (next stamps i h, ne_eqb earlier b (λ q. n (sym q)));
-        slow = g.slow ∙ rw (next stamps i h, e) (min_min slowest _ _);
-        fast = g.fast ∙ rw (next stamps i h, e) (max_max fastest _ _);
-        low = g.low ∙ rw (next stamps i h, e) (sum_sum under _ _);
+        slow = g.slow ∙ rw (next stamps i h, e) (omega arith);
+        fast = g.fast ∙ rw (next stamps i h, e) (omega arith);
+        low = g.low ∙ rw (next stamps i h, e) (omega arith);
       }
 
   pub finished : length stamps ≤ i → record { code = 0; slowest = slowest; fastest = fastest; under = under } ≡ tach_of stamps floor
   unfolding tach_of some_of slowest_of fastest_of under_of
   finished h =
       rw (le-ltb (length stamps) 2 g.many, g.apart, g.slow, g.fast, g.low, drop_of_length-le stamps h)
-      rw (min_top slowest g.top, max_zero fastest, sum_zero under)
+      let slow : slowest ≡ min slowest ticks_a_minute = omega (arith, g.top) in
+      let fast : fastest ≡ max fastest 0 = omega arith in
+      let low : under ≡ under + 0 = omega arith in
+      cc

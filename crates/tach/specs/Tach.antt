@@ -1,7 +1,10 @@
 -- Request h: what `lm89_tach` answers. An answer is the struct of src/lib.rt.
 -- Assumes nothing.
-use Rattle.std.specs.Prelude.{ℕ, ◌+◌, min, max, Bool, false, cond, ◌||◌, List, [], ◌∷◌, length, nat_eq, nat_lt}
+use Rattle.std.specs.Prelude.{ℕ, ◌+◌, min, max, Bool, false, cond, ◌||◌, List, [], ◌∷◌, length, nat_eq, nat_lt, Result, Ok, Err}
 use Rattle.tach.specs.declared.Speeds.{Speeds}
+use Rattle.tach.specs.declared.Report.{Report}
+use Rattle.tach.specs.declared.Refusal.{Refusal}
+use Rattle.tach.specs.declared.Refusal.TheVariants.{FewStamps, EqualStamps}
 use Rattle.tach.specs.Stamps.{neighbours, ticks_a_minute, speeds_of}
 
 -- ---- of a list of speeds; there is at least one wherever an answer tells them
@@ -45,3 +48,13 @@ unfoldable pub tach_of : List ℕ → ℕ → Speeds
 tach_of stamps floor =
     cond (nat_lt (length stamps) 2) (refuses_of 12)
     (cond (equal_of stamps) (refuses_of 13) (reports_of (speeds_of stamps) floor))
+
+-- ---- the answer that a report or a refusal of src/ stands for
+
+abbrev pub code_of : Refusal → ℕ
+code_of FewStamps = 12
+code_of EqualStamps = 13
+
+abbrev pub told_of : Result Report Refusal → Speeds
+told_of (Ok report) = record { code = 0; slowest = report.slowest; fastest = report.fastest; under = report.under }
+told_of (Err refusal) = refuses_of (code_of refusal)

@@ -1,19 +1,39 @@
 #![tactic(auto)]
 
 // Fan speeds from the stamps of a tachometer's edges, one a revolution (request h). It stands beside the sensor.
-ghost use Rattle.std.specs.Prelude.{◌≡◌, min, max, if◌then◌else◌, ◌≢◌, nat_lt};
+ghost use Rattle.std.specs.Prelude.{◌≡◌, ◌≢◌};
 ghost use Rattle.tach.specs.Stamps.{period_of, speed_of};
-ghost use Rattle.tach.specs.Tach.{refuses_of, tach_of};
+ghost use Rattle.tach.specs.Tach.{tach_of, code_of, told_of};
 
 // Ticks of the counter in a minute; the speed at a period of one tick, and none is higher.
 const TICKS_A_MINUTE: u32 = 5400000;
 
-// Codes: fewer than two stamps, and two equal neighbours.
-const FEW_STAMPS: u8 = 12;
+// Why no speeds are told of a run of stamps; each with its code.
+#[derive(Clone, Copy, Debug, PartialEq, Eq)]
+pub enum Refusal {
+    // fewer than two
+    FewStamps = 12,
+    // two equal neighbours
+    EqualStamps = 13,
+}
 
-const EQUAL_STAMPS: u8 = 13;
+impl From<Refusal> for u8 {
+    ghost from_gives = { λ refusal code. code ≡ code_of refusal };
 
-// A code, and the slowest and fastest speed in revolutions a minute, with how many of the speeds fell under the floor.
+    fn from(refusal: Refusal) -> u8 {
+        refusal as u8
+    }
+}
+
+// The slowest and the fastest speed of a run of stamps, in revolutions a minute, and how many of its speeds fell under the floor.
+#[derive(Clone, Copy, Debug, PartialEq, Eq)]
+pub struct Report {
+    pub slowest: u32,
+    pub fastest: u32,
+    pub under: u64,
+}
+
+// A report or a refusal as C gets it: a code, 0 for a report, and the report's numbers, each 0 at a refusal.
 #[repr(C)]
 #[derive(Drop)]
 pub struct Speeds {
@@ -23,11 +43,32 @@ pub struct Speeds {
     pub under: u64,
 }
 
+impl From<Result<Report, Refusal>> for Speeds {
+    ghost from_gives = { λ measured speeds. speeds ≡ told_of measured };
+
+    fn from(measured: Result<Report, Refusal>) -> Speeds {
+        match measured {
+            Ok(report) => Speeds {
+                code: 0,
+                slowest: report.slowest,
+                fastest: report.fastest,
+                under: report.under,
+            },
+            Err(refusal) => Speeds {
+                code: u8::from(refusal),
+                slowest: 0,
+                fastest: 0,
+                under: 0,
+            },
+        }
+    }
+}
+
 // The later stamp less the earlier, going round.
 fn period(earlier: u16, later: u16) -> u16
     ensures { result ≡ period_of earlier later }
 {
-    std::num::wrapping_sub_u16(later, earlier)
+    later.wrapping_sub(earlier)
 }
 
 // Revolutions a minute, rounded down.
@@ -35,68 +76,33 @@ fn speed(earlier: u16, later: u16) -> u32
     requires { later ≢ earlier }
     ensures { result ≡ speed_of (period_of earlier later) }
 {
-    TICKS_A_MINUTE / period(earlier, later) as u32
+    TICKS_A_MINUTE / u32::from(period(earlier, later))
 }
 
-fn slower(a: u32, b: u32) -> u32
-    ensures { result ≡ min a b }
-{
-    if a < b { a } else { b }
-}
-
-fn faster(a: u32, b: u32) -> u32
-    ensures { result ≡ max a b }
-{
-    if a < b { b } else { a }
-}
-
-// 1 for a speed under the floor, else 0.
-fn one_under(speed: u32, floor: u32) -> u64
-    ensures { result ≡ (if nat_lt speed floor then 1 else 0) }
-{
-    if speed < floor { 1 } else { 0 }
-}
-
-fn refused(code: u8) -> Speeds
-    ensures { result ≡ refuses_of code }
-{
-    Speeds {
-        code,
-        slowest: 0,
-        fastest: 0,
-        under: 0,
-    }
-}
-
-// The slowest and the fastest speed of a run of stamps, and how many fell under the floor: 12 for fewer than two stamps; then 13 for two equal neighbours.
-#[unsafe(no_mangle)]
-pub extern "C" fn lm89_tach(stamps: &[u16], floor: u32) -> Speeds
-    ensures { result ≡ tach_of stamps.now floor }
+// The slowest and the fastest speed of a run of stamps, and how many fell under the floor.
+pub fn measure(stamps: &[u16], floor: u32) -> Result<Report, Refusal>
+    ensures { told_of result ≡ tach_of stamps.now floor }
 {
     if stamps.len() < 2 {
-        return refused(FEW_STAMPS);
+        return Err(Refusal::FewStamps);
     }
     let mut earlier = stamps[0];
     let mut slowest = TICKS_A_MINUTE;
     let mut fastest: u32 = 0;
     let mut under: u64 = 0;
-    let mut i: usize = 1;
-    while i < stamps.len() {
-        let later = stamps[i];
+    for &later in &stamps[1..] {
         if later == earlier {
-            return refused(EQUAL_STAMPS);
+            return Err(Refusal::EqualStamps);
         }
         let speed = speed(earlier, later);
-        slowest = slower(slowest, speed);
-        fastest = faster(fastest, speed);
-        under = under + one_under(speed, floor);
+        slowest = slowest.min(speed);
+        fastest = fastest.max(speed);
+        under += u64::from(speed < floor);
         earlier = later;
-        i = i + 1;
     }
-    Speeds {
-        code: 0,
+    Ok(Report {
         slowest,
         fastest,
         under,
-    }
+    })
 }

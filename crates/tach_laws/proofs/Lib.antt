@@ -5,3 +5,4 @@ pub mod Codes
 pub mod Answers
 pub mod Ranges
 pub mod Start
+pub mod Told
