@@ -1,8 +1,8 @@
 -- `kind_refused`: four bytes are refused for their kind exactly if it is not 01 to 07, under a device count of 2 not 01 to 09 (request c).
--- `past_last`, `of_two`: the same, for a kind past the last of the table and for 08 and 09. `kind_alike`: kinds up to 07 read alike under every count.
+-- `past_last`, `of_no_kind`, `of_two`: the same, for a kind past the last of the table, of no kind's number, and for 08 and 09. `kind_alike`: kinds up to 07 read alike under every count.
 -- Assumes nothing.
 use Prim.Native.Nat.{ℕ, zero, suc, ◌<◌}
-use mathlib.Core.Path.{◌≡◌, refl, sym, ◌∙◌}
+use mathlib.Core.Path.{◌≡◌, refl, sym, ap, ◌∙◌}
 use mathlib.Core.Logic.{◌↔◌}
 use mathlib.Core.Bool.{Bool, true, false, cond, ◌&&◌, and-false}
 use mathlib.Core.List.{[], ◌∷◌}
@@ -15,6 +15,9 @@ use Rattle.device.specs.declared.Event.TheVariants.{Write, Read, Send, Receive, 
 use Rattle.record.specs.Record.{Record}
 use Rattle.std.specs.Prelude.{Err}
 use Rattle.record.specs.declared.refusal.Refusal.TheVariants.{Kind}
+use Rattle.record.specs.declared.kind.Kind as Numbers
+use Rattle.record.specs.declared.kind.Kind.TheVariants as number
+use Rattle.record.specs.Kinds.{number_of}
 use Rattle.record.specs.Record.{decode_of, admit_of, good_of, last_kind_of, known_kind}
 
 -- no kind of the table is refused for its kind
@@ -71,6 +74,27 @@ past_last devices kind a b c h = (kind_refused devices kind a b c).1 (simp (lt-l
 -- a last kind past 07 is that of two devices
 pub of_two : (devices : ℕ) → 7 < last_kind_of devices → eqb devices 2 ≡ true
 of_two devices h = by_test (eqb devices 2) (λ two. two) (λ one. absurd (omega (arith, rw one at h)))
+
+-- a number of no kind is refused for it
+pub of_no_kind : (devices kind a b c : ℕ) → ((k : Numbers.Kind) → number_of k ≡ kind → ⊥) → decode_of devices kind a b c ≡ Err Kind
+unfolding decode_of
+of_no_kind devices kind a b c none =
+    let no = λ (k : Numbers.Kind). ne_eqb kind (number_of k) (λ e. none k (sym e)) in
+    rw (
+      no number.Write,
+      no number.Read,
+      no number.Send,
+      no number.Receive,
+      no number.Convert,
+      no number.Open,
+      no number.PowerOn,
+      no number.ConvertSecond,
+      no number.OpenSecond,
+    )
+
+-- a number is that of its kind
+pub numbered : {j k : Numbers.Kind} {n : ℕ} → number_of j ≡ n → j ≡ k → n ≡ number_of k
+numbered {j = j} p e = sym p ∙ ap number_of e
 
 pub kind_alike : (devices kind a b c : ℕ) → leb kind 7 ≡ true → decode_of devices kind a b c ≡ decode_of 1 kind a b c
 unfolding decode_of

@@ -1,4 +1,5 @@
 pub mod Record
+pub mod Kinds
 pub mod Fours
 pub mod Writer
 pub mod Opened

@@ -6,8 +6,10 @@ ghost use Rattle.record.specs.Writer.{Wrote, fitting_of, count_bytes_of, header_
 
 use device::Event;
 
+mod kind;
 mod refusal;
 
+pub use kind::Kind;
 pub use refusal::{Refusal, WriteRefusal, write_code};
 
 fn admit(good: bool, e: Event) -> Result<Event, Refusal>
@@ -20,7 +22,11 @@ fn admit(good: bool, e: Event) -> Result<Event, Refusal>
 fn last_kind(devices: u8) -> u8
     ensures { result ≡ last_kind_of devices }
 {
-    if devices == 2 { 9 } else { 7 }
+    if devices == 2 {
+        Kind::OpenSecond as u8
+    } else {
+        Kind::PowerOn as u8
+    }
 }
 
 // A record's four bytes, under a device count.
@@ -30,17 +36,16 @@ pub fn decode(devices: u8, kind: u8, a: u8, b: u8, c: u8) -> Result<Event, Refus
     if last_kind(devices) < kind {
         return Err(Refusal::Kind);
     }
-    match kind {
-        1 => admit(a <= 0x7F, Event::Write(a, b, c)),
-        2 => admit((a <= 0x7F) & (c == 0), Event::Read(a, b)),
-        3 => admit((a <= 0x7F) & (c == 0), Event::Send(a, b)),
-        4 => admit((a <= 0x7F) & ((b == 0) & (c == 0)), Event::Receive(a)),
-        5 => admit(c % 32 == 0, Event::Convert(a, b, c)),
-        6 => admit((b == 0) & (c == 0), Event::Open(a)),
-        7 => admit((a == 0) & ((b == 0) & (c == 0)), Event::PowerOn),
-        8 => admit(c % 32 == 0, Event::ConvertSecond(a, b, c)),
-        9 => admit((b == 0) & (c == 0), Event::OpenSecond(a)),
-        _ => Err(Refusal::Kind),
+    match Kind::try_from(kind)? {
+        Kind::Write => admit(a <= 0x7F, Event::Write(a, b, c)),
+        Kind::Read => admit((a <= 0x7F) & (c == 0), Event::Read(a, b)),
+        Kind::Send => admit((a <= 0x7F) & (c == 0), Event::Send(a, b)),
+        Kind::Receive => admit((a <= 0x7F) & ((b == 0) & (c == 0)), Event::Receive(a)),
+        Kind::Convert => admit(c % 32 == 0, Event::Convert(a, b, c)),
+        Kind::Open => admit((b == 0) & (c == 0), Event::Open(a)),
+        Kind::PowerOn => admit((a == 0) & ((b == 0) & (c == 0)), Event::PowerOn),
+        Kind::ConvertSecond => admit(c % 32 == 0, Event::ConvertSecond(a, b, c)),
+        Kind::OpenSecond => admit((b == 0) & (c == 0), Event::OpenSecond(a)),
     }
 }
 
@@ -49,15 +54,15 @@ pub fn encode(e: Event) -> [u8; 4]
     ensures { result ≡ encode_of e }
 {
     match e {
-        Event::Write(a, b, c) => [1, a, b, c],
-        Event::Read(a, b) => [2, a, b, 0],
-        Event::Send(a, b) => [3, a, b, 0],
-        Event::Receive(a) => [4, a, 0, 0],
-        Event::Convert(a, b, c) => [5, a, b, c],
-        Event::Open(a) => [6, a, 0, 0],
-        Event::PowerOn => [7, 0, 0, 0],
-        Event::ConvertSecond(a, b, c) => [8, a, b, c],
-        Event::OpenSecond(a) => [9, a, 0, 0],
+        Event::Write(a, b, c) => [Kind::Write as u8, a, b, c],
+        Event::Read(a, b) => [Kind::Read as u8, a, b, 0],
+        Event::Send(a, b) => [Kind::Send as u8, a, b, 0],
+        Event::Receive(a) => [Kind::Receive as u8, a, 0, 0],
+        Event::Convert(a, b, c) => [Kind::Convert as u8, a, b, c],
+        Event::Open(a) => [Kind::Open as u8, a, 0, 0],
+        Event::PowerOn => [Kind::PowerOn as u8, 0, 0, 0],
+        Event::ConvertSecond(a, b, c) => [Kind::ConvertSecond as u8, a, b, c],
+        Event::OpenSecond(a) => [Kind::OpenSecond as u8, a, 0, 0],
     }
 }
 

@@ -1,78 +1,58 @@
-use Prim.Native.Nat.{ℕ}
-use mathlib.Core.Path.{◌≡◌, sym}
+use mathlib.Core.Path.{sym}
+use Rattle.std.proofs.lemmas.Result.{err_from_is_err_and}
 use native.Mathlib.Omega.{arith}
-use borrow.Author.Tests.{ne_eqb}
-use Rattle.std.specs.Prelude.{Err}
-use Rattle.record.specs.declared.refusal.Refusal.TheVariants.{Kind}
 use Rattle.record.specs.Record.{decode_of}
 use Rattle.device.specs.Ranges.{operands_of}
-use Rattle.record.proofs.Known.{past_last, of_two}
+use Rattle.record.proofs.Known.{past_last, of_two, numbered, of_no_kind}
 use Rattle.record.proofs.decode.Goals as goal
-
-abbrev Not : ℕ → ℕ → Type 0
-Not k kind = kind ≡ k → ⊥
-
-none_of_nine : (devices kind a b c : ℕ)
-    → ((((((((Unit {0} × Not 1 kind) × Not 2 kind) × Not 3 kind) × Not 4 kind) × Not 5 kind) × Not 6 kind) × Not 7 kind) × Not 8 kind) × Not 9 kind
-    → decode_of devices kind a b c ≡ Err Kind
-unfolding decode_of
-none_of_nine devices kind a b c n =
-    let to6 = n.0.0.0 in
-    let to3 = to6.0.0.0 in
-    rw (
-      ne_eqb kind 1 to3.0.0.1,
-      ne_eqb kind 2 to3.0.1,
-      ne_eqb kind 3 to3.1,
-      ne_eqb kind 4 to6.0.0.1,
-      ne_eqb kind 5 to6.0.1,
-      ne_eqb kind 6 to6.1,
-      ne_eqb kind 7 n.0.0.1,
-      ne_eqb kind 8 n.0.1,
-      ne_eqb kind 9 n.1,
-    )
 
 pub returns-then-last_kind-kind : goal.returns-then-last_kind-kind
 returns-then-last_kind-kind c = sym (past_last _ _ _ _ _ (rw c.last_kind.ensures at c.if-last_kind-kind.true))
 
-pub returns-in-1 : goal.returns-in-1
-unfolding decode_of operands_of
-returns-in-1 c = rw (c.admit.ensures, c.in-1.is)
+pub returns-in_err-try_from : goal.returns-in_err-try_from
+returns-in_err-try_from c =
+    let p = err_from_is_err_and c.from_residual.result c.from_residual.ensures.1 in
+    let none = c.in_err-try_from.ensures in
+    rw (p.1, p.2, none.0) (sym (of_no_kind _ _ _ _ _ none.1))
 
-pub returns-in-2 : goal.returns-in-2
+pub returns-in-Write : goal.returns-in-Write
 unfolding decode_of operands_of
-returns-in-2 c = rw (c.admit-in-2.ensures, c.in-2.is)
+returns-in-Write c = rw (c.admit.ensures, numbered c.in_ok-try_from.ensures c.in-Write.is)
 
-pub returns-in-3 : goal.returns-in-3
+pub returns-in-Read : goal.returns-in-Read
 unfolding decode_of operands_of
-returns-in-3 c = rw (c.admit-in-3.ensures, c.in-3.is)
+returns-in-Read c = rw (c.admit-in-Read.ensures, numbered c.in_ok-try_from.ensures c.in-Read.is)
 
-pub returns-in-4 : goal.returns-in-4
+pub returns-in-Send : goal.returns-in-Send
 unfolding decode_of operands_of
-returns-in-4 c = rw (c.admit-in-4.ensures, c.in-4.is)
+returns-in-Send c = rw (c.admit-in-Send.ensures, numbered c.in_ok-try_from.ensures c.in-Send.is)
 
-pub returns-in-5 : goal.returns-in-5
+pub returns-in-Receive : goal.returns-in-Receive
 unfolding decode_of operands_of
-returns-in-5 c = rw (c.admit-in-5.ensures, c.in-5.is)
+returns-in-Receive c = rw (c.admit-in-Receive.ensures, numbered c.in_ok-try_from.ensures c.in-Receive.is)
 
-pub returns-in-6 : goal.returns-in-6
+pub returns-in-Convert : goal.returns-in-Convert
 unfolding decode_of operands_of
-returns-in-6 c = rw (c.admit-in-6.ensures, c.in-6.is)
+returns-in-Convert c = rw (c.admit-in-Convert.ensures, numbered c.in_ok-try_from.ensures c.in-Convert.is)
 
-pub returns-in-7 : goal.returns-in-7
+pub returns-in-Open : goal.returns-in-Open
 unfolding decode_of operands_of
-returns-in-7 c = rw (c.admit-in-7.ensures, c.in-7.is)
+returns-in-Open c = rw (c.admit-in-Open.ensures, numbered c.in_ok-try_from.ensures c.in-Open.is)
 
-pub returns-in-8 : goal.returns-in-8
+pub returns-in-PowerOn : goal.returns-in-PowerOn
 unfolding decode_of operands_of
-returns-in-8 c =
-    let two = of_two c.args.devices (omega (arith, c.if-last_kind-kind.false, c.last_kind.ensures, c.in-8.is)) in
-    rw (c.admit-in-8.ensures, c.in-8.is, two)
+returns-in-PowerOn c = rw (c.admit-in-PowerOn.ensures, numbered c.in_ok-try_from.ensures c.in-PowerOn.is)
 
-pub returns-in-9 : goal.returns-in-9
+pub returns-in-ConvertSecond : goal.returns-in-ConvertSecond
 unfolding decode_of operands_of
-returns-in-9 c =
-    let two = of_two c.args.devices (omega (arith, c.if-last_kind-kind.false, c.last_kind.ensures, c.in-9.is)) in
-    rw (c.admit-in-9.ensures, c.in-9.is, two)
+returns-in-ConvertSecond c =
+    let kind = numbered c.in_ok-try_from.ensures c.in-ConvertSecond.is in
+    let two = of_two c.args.devices (omega (arith, c.if-last_kind-kind.false, c.last_kind.ensures, kind)) in
+    rw (c.admit-in-ConvertSecond.ensures, kind, two)
 
-pub returns-in_default : goal.returns-in_default
-returns-in_default c = sym (none_of_nine _ _ _ _ _ c.in_default.in_default-own.rest)
+pub returns-in-OpenSecond : goal.returns-in-OpenSecond
+unfolding decode_of operands_of
+returns-in-OpenSecond c =
+    let kind = numbered c.in_ok-try_from.ensures c.in-OpenSecond.is in
+    let two = of_two c.args.devices (omega (arith, c.if-last_kind-kind.false, c.last_kind.ensures, kind)) in
+    rw (c.admit-in-OpenSecond.ensures, kind, two)
