@@ -1,6 +1,6 @@
 #![tactic(auto)]
 
-// The library's version, for C.
+// The library's version.
 ghost use Rattle.std.specs.Prelude.{◌≡◌};
 ghost use Rattle.bench_version.specs.Version.{version_of};
 
@@ -9,8 +9,7 @@ const MAJOR: u32 = 4;
 const MINOR: u32 = 4;
 
 // A header of another major number was written for another library.
-#[unsafe(no_mangle)]
-pub extern "C" fn lm89_version() -> u32
+pub fn version() -> u32
     ensures { result ≡ version_of }
 {
     MAJOR * 0x10000 + MINOR

@@ -8,5 +8,5 @@ ghost use Rattle.bench_version.specs.Version.{version_of};
 pub extern "C" fn lm89_version() -> u32
     ensures { result ≡ version_of }
 {
-    bench_version::lm89_version()
+    bench_version::version()
 }
