@@ -8,7 +8,7 @@ ghost use Rattle.device.specs.Asking.{asked_at, asked_of};
 
 use super::{Asked, Device, Event, Outcome, outputs};
 use conversion::Sensed;
-use registers::bits;
+use registers::{Way, bits};
 use temperature::Reading;
 
 pub const ALERT_RESPONSE: u8 = 0x0C;
@@ -79,10 +79,10 @@ fn fired(d: Device) -> Device
 pub(crate) fn put(d: Device, reg: u8, v: u8) -> Outcome
     ensures { result ≡ put_of d reg v }
 {
-    if !registers::writable(reg) {
+    if !registers::allowed(Way::Write, reg) {
         return silent(d);
     }
-    match registers::write_position(reg) {
+    match registers::position(Way::Write, reg) {
         Some(i) => answered(stored(d, reg, i as usize, v), 0),
         None => answered(fired(d), 0),
     }
@@ -151,11 +151,11 @@ fn read_only(d: Device, reg: u8) -> Outcome
 pub(crate) fn get(d: Device, reg: u8) -> Outcome
     ensures { result ≡ get_of d reg }
 {
-    if !registers::readable(reg) {
+    if !registers::allowed(Way::Read, reg) {
         return silent(d);
     }
     let n = pointed(d, reg);
-    match registers::read_position(reg) {
+    match registers::position(Way::Read, reg) {
         Some(i) => answered(n, d.settings[i as usize]),
         None => read_only(n, reg),
     }

@@ -9,6 +9,8 @@ use lib.Dec.{eqb, leb}
 use borrow.Author.Tests.{le-leb, lt-leb}
 use Rattle.laws.proofs.Arms.{keyed, Missed, missed}
 use Rattle.laws.proofs.Tables.{agree}
+use Rattle.std.specs.Prelude.{None}
+use Rattle.registers.specs.declared.page.Access.TheVariants.{Neither}
 use Rattle.registers.specs.Rows.{Told, by_page, by_row}
 use Rattle.registers.specs.Page.{Default, every_variant, each, column, page, read_only_in, read_only_of}
 use Rattle.registers.specs.Opened.{registers_opened}
@@ -30,7 +32,7 @@ rowed r = cond (leb r 0x21) (keyed close r) (keyed far r)
 
 -- a row without access
 abbrev bare : ℕ → Told
-bare r = by_row r 0 14 0xFF
+bare r = by_row r (record { access = Neither; place = None; kept = 0xFF })
 
 -- by the page, too, a number without a row has no right, no position and every bit: one computed comparison over the 256 numbers
 without_row : (r : ℕ) → r < 256 → rowed r ≡ false → bare r ≡ by_page r

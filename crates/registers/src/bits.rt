@@ -1,4 +1,13 @@
 // The bits of status, configuration and register BF, and the bits that registers keep.
+ghost use Rattle.std.specs.Prelude.{◌≡◌};
+ghost use Rattle.registers.specs.Bits.{has};
+
+// Whether a bit of the mask is set in the byte.
+pub fn has(byte: u8, mask: u8) -> bool
+    ensures { result ≡ has byte mask }
+{
+    byte & mask != 0
+}
 
 // Status.
 pub const LHIGH: u8 = 0x40;

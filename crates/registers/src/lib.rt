@@ -3,11 +3,20 @@
 // The registers: which are readable and writable, the fourteen settable bytes, kept bits and power-on bytes. What a number is asked
 // for stands in the rows of `page`.
 ghost use Rattle.std.specs.Prelude.{◌≡◌};
-ghost use Rattle.registers.specs.Rows.{placed_of};
-ghost use Rattle.registers.specs.Page.{readable_of, writable_of, known_of, write_position_of, read_position_of, kept_of, power_on_of, read_only_of, address_of};
+ghost use Rattle.registers.specs.Rows.{allowed_of, position_of};
+ghost use Rattle.registers.specs.Page.{known_of, kept_of, power_on_of, read_only_of, address_of};
+
+use page::Access;
 
 pub mod bits;
 mod page;
+
+// Which way a byte goes.
+#[derive(Clone, Copy, PartialEq, Eq)]
+pub enum Way {
+    Read,
+    Write,
+}
 
 pub const CONFIGURATION: usize = 0;
 
@@ -50,55 +59,37 @@ pub const MANUFACTURER: u8 = 0xFE;
 
 pub const DIE_REVISION: u8 = 0xFF;
 
-// In R.
-pub fn readable(reg: u8) -> bool
-    ensures { result ≡ readable_of reg }
+// Whether a register is read, or written, at this number: in R, or in W.
+pub fn allowed(way: Way, reg: u8) -> bool
+    ensures { result ≡ allowed_of way reg }
 {
-    page::row_of(reg).0 & page::reading(reg) != 0
-}
-
-// In W.
-pub fn writable(reg: u8) -> bool
-    ensures { result ≡ writable_of reg }
-{
-    page::row_of(reg).0 & page::writing(reg) != 0
+    page::row_of(reg).access.allows(way, reg)
 }
 
 // In R or W.
 pub fn known(reg: u8) -> bool
     ensures { result ≡ known_of reg }
 {
-    page::row_of(reg).0 != page::NONE
+    page::row_of(reg).access != Access::Neither
 }
 
-// A row's place, where the test holds.
-fn placed(on: bool, place: u8) -> Option<u8>
-    ensures { result ≡ placed_of on place }
-{
-    (on & (place < page::NOWHERE)).then_some(place)
-}
-
-// Where the byte of the register that is written at `reg` stands among the fourteen.
-pub fn write_position(reg: u8) -> Option<u8>
-    ensures { result ≡ write_position_of reg }
+// Where the byte of the register that is read, or written, at this number stands among the fourteen.
+pub fn position(way: Way, reg: u8) -> Option<u8>
+    ensures { result ≡ position_of way reg }
 {
     let row = page::row_of(reg);
-    placed(row.0 & page::writing(reg) != 0, row.1)
-}
-
-// Where the byte of the register that is read at `reg` stands among the fourteen.
-pub fn read_position(reg: u8) -> Option<u8>
-    ensures { result ≡ read_position_of reg }
-{
-    let row = page::row_of(reg);
-    placed(row.0 & page::reading(reg) != 0, row.1)
+    if row.access.allows(way, reg) {
+        row.place
+    } else {
+        None
+    }
 }
 
 // The bits that a register keeps, by either of its numbers.
 pub fn kept(reg: u8) -> u8
     ensures { result ≡ kept_of reg }
 {
-    page::row_of(reg).2
+    page::row_of(reg).kept
 }
 
 // The fourteen bytes at power-on; none but variants 1 to 3 has a table.

@@ -5,24 +5,24 @@ use Rattle.device.specs.Bus.{low_read_of, read_only_value_of, value_of, get_of}
 use Rattle.device.proofs.AfterRead.{settable_read}
 use Rattle.device.proofs.bus.get.Goals as goal
 
-pub returns-then-not-readable : goal.returns-then-not-readable
+pub returns-then-not-allowed : goal.returns-then-not-allowed
 unfolding get_of
-returns-then-not-readable c = rw (c.silent.ensures, ← c.readable.ensures, c.if-not-readable.true)
+returns-then-not-allowed c = rw (c.silent.ensures, ← c.allowed.ensures, c.if-not-allowed.true)
 
 pub bounds-d-i : goal.bounds-d-i
-bounds-d-i c = read_below _ _ (sym c.read_position.ensures ∙ c.in-Some.is)
+bounds-d-i c = read_below _ _ (sym c.position.ensures ∙ c.in-Some.is)
 
 pub returns-in-Some : goal.returns-in-Some
 unfolding get_of value_of setting_of
 returns-in-Some c =
-    let there = sym c.read_position.ensures ∙ c.in-Some.is in
+    let there = sym c.position.ensures ∙ c.in-Some.is in
     let settable = sym (settable_position _) ∙ ap somewhere there in
-    let may = sym c.readable.ensures ∙ c.if-not-readable.false in
+    let may = sym c.allowed.ensures ∙ c.if-not-allowed.false in
     rw (c.answered.ensures, c.pointed-n.ensures, may, settable, there, settable_read _ _ settable)
 
 pub returns-in-None : goal.returns-in-None
 unfolding get_of value_of read_only_value_of low_read_of
 returns-in-None c =
-    let none = sym c.read_position.ensures ∙ c.in-None.is in
-    let may = sym c.readable.ensures ∙ c.if-not-readable.false in
+    let none = sym c.position.ensures ∙ c.in-None.is in
+    let may = sym c.allowed.ensures ∙ c.if-not-allowed.false in
     rw (c.read_only.ensures, c.pointed-n.ensures, may, sym (settable_position _) ∙ ap somewhere none)

@@ -3,23 +3,23 @@ use Rattle.device.specs.Bus.{put_of}
 use mathlib.Core.Path.{sym, ◌∙◌}
 use Rattle.device.proofs.bus.put.Goals as goal
 
-pub returns-then-not-writable : goal.returns-then-not-writable
+pub returns-then-not-allowed : goal.returns-then-not-allowed
 unfolding put_of
-returns-then-not-writable c = rw (c.silent.ensures, ← c.writable.ensures, c.if-not-writable.true)
+returns-then-not-allowed c = rw (c.silent.ensures, ← c.allowed.ensures, c.if-not-allowed.true)
 
 pub stored-requires : goal.stored-requires
-stored-requires c = sym c.write_position.ensures ∙ c.in-Some.is
+stored-requires c = sym c.position.ensures ∙ c.in-Some.is
 
 pub returns-in-Some : goal.returns-in-Some
 unfolding put_of
 returns-in-Some c =
-    let may = sym c.writable.ensures ∙ c.if-not-writable.false in
-    let other = write_not_shot _ _ (sym c.write_position.ensures ∙ c.in-Some.is) in
+    let may = sym c.allowed.ensures ∙ c.if-not-allowed.false in
+    let other = write_not_shot _ _ (sym c.position.ensures ∙ c.in-Some.is) in
     rw (c.answered.ensures, c.stored.ensures, may, other)
 
 pub returns-in-None : goal.returns-in-None
 unfolding put_of
 returns-in-None c =
-    let may = sym c.writable.ensures ∙ c.if-not-writable.false in
-    let none = sym c.write_position.ensures ∙ c.in-None.is in
+    let may = sym c.allowed.ensures ∙ c.if-not-allowed.false in
+    let none = sym c.position.ensures ∙ c.in-None.is in
     rw (c.answered-in-None.ensures, c.fired.ensures, may, write_shot _ may none)

@@ -17,27 +17,27 @@ returns-in-2 c = rw c.in-2.is
 
 pub returns-in-3 : goal.returns-in-3
 unfolding registers_opened
-returns-in-3 c = ⊎_elim (λ e. rw e) (λ e. rw e) c.in-3.is
+returns-in-3 c = rw c.settable.ensures (⊎_elim (λ e. rw e) (λ e. rw e) c.in-3.is)
 
 pub returns-in-4 : goal.returns-in-4
 unfolding registers_opened
-returns-in-4 c = ⊎_elim (λ e. rw e) (λ e. rw e) c.in-4.is
+returns-in-4 c = rw c.settable-in-4.ensures (⊎_elim (λ e. rw e) (λ e. rw e) c.in-4.is)
 
 pub returns-in-5 : goal.returns-in-5
 unfolding registers_opened
-returns-in-5 c = ⊎_elim (λ e. rw e) (λ e. rw e) c.in-5.is
+returns-in-5 c = rw c.settable-in-5.ensures (⊎_elim (λ e. rw e) (λ e. rw e) c.in-5.is)
 
 pub returns-in-6 : goal.returns-in-6
 unfolding registers_opened
-returns-in-6 c = ⊎_elim (λ e. rw e) (λ e. rw e) c.in-6.is
+returns-in-6 c = rw c.settable-in-6.ensures (⊎_elim (λ e. rw e) (λ e. rw e) c.in-6.is)
 
 pub returns-in-7 : goal.returns-in-7
 unfolding registers_opened
-returns-in-7 c = ⊎_elim (λ e. rw e) (λ e. rw e) c.in-7.is
+returns-in-7 c = rw c.settable-in-7.ensures (⊎_elim (λ e. rw e) (λ e. rw e) c.in-7.is)
 
 pub returns-in-8 : goal.returns-in-8
 unfolding registers_opened
-returns-in-8 c = ⊎_elim (λ e. rw e) (λ e. rw e) c.in-8.is
+returns-in-8 c = rw c.settable-in-8.ensures (⊎_elim (λ e. rw e) (λ e. rw e) c.in-8.is)
 
 pub returns-in-15 : goal.returns-in-15
 unfolding registers_opened
@@ -49,31 +49,31 @@ returns-in-16 c = rw c.in-16.is
 
 pub returns-in-17 : goal.returns-in-17
 unfolding registers_opened
-returns-in-17 c = rw c.in-17.is
+returns-in-17 c = rw (c.settable-in-17.ensures, c.in-17.is)
 
 pub returns-in-18 : goal.returns-in-18
 unfolding registers_opened
-returns-in-18 c = rw c.in-18.is
+returns-in-18 c = rw (c.settable-in-18.ensures, c.in-18.is)
 
 pub returns-in-19 : goal.returns-in-19
 unfolding registers_opened
-returns-in-19 c = rw c.in-19.is
+returns-in-19 c = rw (c.settable-in-19.ensures, c.in-19.is)
 
 pub returns-in-20 : goal.returns-in-20
 unfolding registers_opened
-returns-in-20 c = rw c.in-20.is
+returns-in-20 c = rw (c.settable-in-20.ensures, c.in-20.is)
 
 pub returns-in-25 : goal.returns-in-25
 unfolding registers_opened
-returns-in-25 c = rw c.in-25.is
+returns-in-25 c = rw (c.settable-in-25.ensures, c.in-25.is)
 
 pub returns-in-32 : goal.returns-in-32
 unfolding registers_opened
-returns-in-32 c = rw c.in-32.is
+returns-in-32 c = rw (c.settable-in-32.ensures, c.in-32.is)
 
 pub returns-in-33 : goal.returns-in-33
 unfolding registers_opened
-returns-in-33 c = rw c.in-33.is
+returns-in-33 c = rw (c.settable-in-33.ensures, c.in-33.is)
 
 pub returns-in_default : goal.returns-in_default
 returns-in_default c =
@@ -81,7 +81,7 @@ returns-in_default c =
 
 pub returns-in-191 : goal.returns-in-191
 unfolding registers_opened
-returns-in-191 c = rw c.in-191.is
+returns-in-191 c = rw (c.settable-in-191.ensures, c.in-191.is)
 
 pub returns-in-254 : goal.returns-in-254
 unfolding registers_opened
