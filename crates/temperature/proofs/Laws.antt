@@ -1,32 +1,27 @@
 -- Signed numbers in range, a small calculus of intervals. `Within H z` says -H ≤ z < H.
 -- Assumes nothing.
-use mathlib.Core.Path.{◌≡◌, refl, subst}
+use mathlib.Core.Path.{◌≡◌, refl}
 use mathlib.Core.Bool.{Bool, true, false}
 use Prim.Native.Nat.{ℕ, zero, suc, ◌+◌, ◌*◌, ◌/◌, ◌^◌, ◌<◌, ◌≤◌}
 use native.Mathlib.Nat.{lt_of_lt_of_le}
 use native.Mathlib.Omega.{arith}
 use lib.IntN.{ℤ, pos, negsuc, sub_ℕ, ◌+ℤ◌, ◌-ℤ◌, ◌*ℤ◌}
-use lib.Signed.{mag, lt_z}
+use lib.Signed.{mag}
 use lib.Dec.{T, leb, ltb, leb→le, lit<}
-use lib.Bits.{bit_xor}
-use Rattle.laws.proofs.Tables.{agree}
-use borrow.Author.Tests.{lt-ltb, le-ltb, ltb-true, ltb-false}
-use mir.Syntax.{w8, w16, w32}
+use borrow.Author.Tests.{lt-ltb, ltb-true, ltb-false}
+use mir.Syntax.{w8, w16}
 use mir.Val.{SFits, Fits, to_z, of_z}
-use mir.Facts.{to_z_pos, to_z-of_z}
-use Rattle.temperature.specs.Temperature.{degrees_of, eighths_of, held_of, word_of}
+use mir.Facts.{to_z-of_z}
+use Rattle.temperature.specs.Temperature.{degrees_of, eighths_of, held_of}
 
 -- a record, so that the numbers are inferred
 pub record Within (H : ℕ) (z : ℤ) : Type 0 where
   pub within : mag z < H
 
--- ---- what an i16 or i32 asks, and that it is read back
+-- ---- what an i16 asks, and that it is read back
 
 pub fits16 : {H : ℕ} {z : ℤ} → Within H z → T (leb H (2 ^ 15)) → SFits w16 z
 fits16 {H} h t = record { sfits = lt_of_lt_of_le h.within (leb→le H (2 ^ 15) t) }
-
-pub fits32 : {H : ℕ} {z : ℤ} → Within H z → T (leb H (2 ^ 31)) → SFits w32 z
-fits32 {H} h t = record { sfits = lt_of_lt_of_le h.within (leb→le H (2 ^ 31) t) }
 
 pub back : {H : ℕ} {z : ℤ} → Within H z → T (leb H (2 ^ 15)) → to_z w16 (of_z w16 z) ≡ z
 back h t = to_z-of_z (fits16 h t)
@@ -80,21 +75,6 @@ within_pos H h = record { within = h }
 
 -- ---- a byte
 
-flipped_small : (b : ℕ) → b < 256 → ltb (bit_xor b 0x80) 256 ≡ true
-flipped_small = agree (λ b. ltb (bit_xor b 0x80) 256) (λ b. true) 256 refl
-
--- a byte with its top bit turned, as a number
-pub flipped : {b : ℕ} → Fits w8 b → bit_xor b 0x80 < 256
-flipped {b} h = ltb-true _ _ (flipped_small b h.fits)
-
-pub flipped_pos : {b : ℕ} → Fits w8 b → to_z w16 (bit_xor b 0x80) ≡ pos (bit_xor b 0x80)
-flipped_pos h = to_z_pos w16 (omega (arith, flipped h))
-
--- less 128, it is the byte in degrees
-pub lowered : (b : ℕ) → b < 256 → pos (bit_xor b 0x80) -ℤ pos 0x80 ≡ degrees_of b
-unfolding degrees_of
-lowered = agree (λ b. pos (bit_xor b 0x80) -ℤ pos 0x80) degrees_of 256 refl
-
 pub byte_within : {b : ℕ} → Fits w8 b → Within 128 (degrees_of b)
 unfolding degrees_of
 byte_within {b} h = record { within = split (ltb b 0x80) refl }
@@ -123,17 +103,3 @@ held_scale (negsuc n) = split (ltb 1023 n) refl
     split : (t : Bool) → ltb 1023 n ≡ t → mag (held_of (negsuc n)).eighths < 1024
     split true e = rw e (lit< tt)
     split false e = rw e (omega (arith, ltb-false 1023 n e))
-
--- ---- the sixteen bits
-
-pub word_bits : (z : ℤ) → word_of z ≡ of_z w16 z
-word_bits (pos n) = refl
-word_bits (negsuc n) = refl
-
-pub raised : (z : ℤ) → mag z < 2 ^ 15 → lt_z z (pos 0) ≡ true → z +ℤ pos 0x10000 ≡ pos (of_z w16 z)
-raised (pos n) h e = absurd (omega (arith, ltb-true n 0 e))
-raised (negsuc n) h e = simp (le-ltb 0x10000 (suc n) (omega arith))
-
-pub stays : (z : ℤ) → lt_z z (pos 0) ≡ false → z ≡ pos (of_z w16 z)
-stays (pos n) e = refl
-stays (negsuc n) e = absurd (subst T e tt)

@@ -1,8 +1,8 @@
 #![tactic(auto)]
 // Temperatures (P1 to P3, request b): two's complement bytes, signed eighths of a degree, and their comparisons.
-ghost use Rattle.std.specs.Prelude.{◌≡◌};
+ghost use Rattle.std.specs.Prelude.{◌≡◌, [], ◌∷◌};
 ghost use Rattle.temperature.specs.Temperature.{degrees_of, eighths_of, held_of, held_sum_of, open_reading, above_of, below_of, cleared_of};
-ghost use Rattle.temperature.specs.Temperature.{word_of, high_byte_of, low_byte_of};
+ghost use Rattle.temperature.specs.Temperature.{high_byte_of, low_byte_of};
 
 // The ends of the scale, in eighths.
 pub const LOWEST: i16 = -1024;
@@ -16,7 +16,7 @@ const OPEN_EIGHTHS: i16 = 1016;
 pub fn degrees(b: u8) -> i16
     ensures { result ≡ degrees_of b }
 {
-    (b ^ 0x80) as i16 - 0x80
+    i16::from(b.cast_signed())
 }
 
 // P1: a high byte and the top three bits of a low byte as eighths.
@@ -26,7 +26,7 @@ pub fn eighths(high: u8, low: u8) -> i16
     degrees(high) * 8 + (low / 32) as i16
 }
 
-// A remote reading, and whether its sum was held at an end of the scale.
+// A remote reading, and whether its sum was held at an end of the scale. Kept: no Option or Result, since there is a reading either way.
 #[derive(Clone, Copy)]
 pub struct Reading {
     pub eighths: i16,
@@ -36,21 +36,10 @@ pub struct Reading {
 fn hold(sum: i16) -> Reading
     ensures { result ≡ held_of sum }
 {
-    if HIGHEST < sum {
-        Reading {
-            eighths: HIGHEST,
-            held: true,
-        }
-    } else if sum < LOWEST {
-        Reading {
-            eighths: LOWEST,
-            held: true,
-        }
-    } else {
-        Reading {
-            eighths: sum,
-            held: false,
-        }
+    let eighths = sum.clamp(LOWEST, HIGHEST);
+    Reading {
+        eighths,
+        held: eighths != sum,
     }
 }
 
@@ -92,27 +81,23 @@ pub fn cleared(t: i16, crit: u8, hysteresis: u8) -> bool
     t < eighths(crit, 0) - (hysteresis as i16) * 8
 }
 
-// The sixteen bits of a number, two's complement.
-pub fn word(t: i16) -> u16
-    ensures { result ≡ word_of t }
+// P1 the other way: a reading as its two bytes, its eighths at the top of the second.
+fn two_bytes(t: i16) -> [u8; 2]
+    ensures { result ≡ high_byte_of t ∷ low_byte_of t ∷ [] }
 {
-    if t < 0 {
-        (t as i32 + 0x10000) as u16
-    } else {
-        t as u16
-    }
+    (t.cast_unsigned() << 5).to_be_bytes()
 }
 
 // P1 the other way: the high byte of a reading.
 pub fn high_byte(t: i16) -> u8
     ensures { result ≡ high_byte_of t }
 {
-    (word(t) / 8 % 0x100) as u8
+    two_bytes(t)[0]
 }
 
 // P1 the other way: the low byte of a reading.
 pub fn low_byte(t: i16) -> u8
     ensures { result ≡ low_byte_of t }
 {
-    (word(t) % 8 * 32) as u8
+    two_bytes(t)[1]
 }

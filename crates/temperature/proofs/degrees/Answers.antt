@@ -1,17 +1,23 @@
-use mathlib.Core.Path.{◌∙◌}
+use mathlib.Core.Path.{◌≡◌, refl, ◌∙◌}
+use Prim.Native.Nat.{ℕ, ◌<◌}
+use mir.Syntax.{w8}
+use mir.Val.{to_z}
 use mir.Facts.{to_z-of_z}
-use Rattle.temperature.proofs.Laws.{fits16, within_pos, byte_within, flipped, flipped_pos, lowered}
+use Rattle.laws.proofs.Tables.{agree}
+use Rattle.temperature.specs.Temperature.{degrees_of}
+use Rattle.temperature.proofs.Laws.{same}
 use Rattle.temperature.proofs.degrees.Goals as goal
 
--- A byte with its top bit turned, less 128, is the byte in degrees. Assumes nothing.
+-- A byte as a signed number is the byte in degrees. Assumes nothing.
 
-pub overflow_cast-result : goal.overflow_cast-result
-overflow_cast-result c = fits16 (within_pos 256 (flipped c.ranges.b)) tt
-
-pub overflow_sub-result : goal.overflow_sub-result
-overflow_sub-result c =
-    let b = c.ranges.b in
-    rw (flipped_pos b, lowered c.args.b b.fits) (fits16 (byte_within b) tt)
+signed : (b : ℕ) → b < 256 → to_z w8 b ≡ degrees_of b
+unfolding degrees_of
+signed = agree (to_z w8) degrees_of 256 refl
 
 pub returns : goal.returns
-returns c = to_z-of_z (overflow_sub-result c) ∙ rw (flipped_pos c.ranges.b) (lowered c.args.b c.ranges.b.fits)
+returns c =
+    same c.from.result c.from.type_inv
+    ∙ c.from.ensures
+    ∙ to_z-of_z {w = w8} (record { sfits = c.cast_signed.type_inv })
+    ∙ c.cast_signed.ensures
+    ∙ signed c.args.b c.ranges.b.fits
