@@ -27,6 +27,19 @@ pub struct Limits {
     pub crit: i16,
 }
 
+impl Limits {
+    // P3, for either channel.
+    pub fn compare(self, t: i16) -> Out
+        ensures { result ≡ out_of t self }
+    {
+        Out {
+            high: temperature::above(t, self.high),
+            low: temperature::below(t, self.low),
+            crit: temperature::above(t, self.crit),
+        }
+    }
+}
+
 // Which limits a reading is out of.
 #[derive(Clone, Copy)]
 pub struct Out {
@@ -34,6 +47,28 @@ pub struct Out {
     pub low: bool,
     pub crit: bool,
 }
+
+impl Out {
+    pub fn any(self) -> bool
+        ensures { result ≡ any_of self }
+    {
+        self.high | self.low | self.crit
+    }
+
+    // P4: what becomes live of it.
+    pub fn shown(self, queued: bool) -> Out
+        ensures { result ≡ shown_of queued self }
+    {
+        Out {
+            high: self.high & !queued,
+            low: self.low & !queued,
+            crit: self.crit & !queued,
+        }
+    }
+}
+
+// P4: so many remote readings in a row, each outside a limit, let the remote bits through the fault queue.
+pub const QUEUE: u8 = 3;
 
 // P2, request b: the remote reading of a sample, and whether it was held.
 pub fn reading(s: [u8; 14], high: u8, low: u8) -> Reading
@@ -62,29 +97,12 @@ pub fn remote_limits(s: [u8; 14]) -> Limits
     }
 }
 
-// P3, for either channel.
-pub fn compare(t: i16, limits: Limits) -> Out
-    ensures { result ≡ out_of t limits }
-{
-    Out {
-        high: temperature::above(t, limits.high),
-        low: temperature::below(t, limits.low),
-        crit: temperature::above(t, limits.crit),
-    }
-}
-
-pub fn any(o: Out) -> bool
-    ensures { result ≡ any_of o }
-{
-    o.high | o.low | o.crit
-}
-
 // P4: the fault count after a conversion.
 pub fn count(faults: u8, out: bool) -> u8
     ensures { result ≡ count_of faults out }
 {
     if out {
-        if faults < 3 { faults + 1 } else { 3 }
+        faults.saturating_add(1).min(QUEUE)
     } else {
         0
     }
@@ -94,17 +112,7 @@ pub fn count(faults: u8, out: bool) -> u8
 pub fn queued(configuration: u8, count: u8) -> bool
     ensures { result ≡ queued_of configuration count }
 {
-    (configuration & bits::FAULT_QUEUE != 0) & (count < 3)
-}
-
-pub fn shown(queued: bool, o: Out) -> Out
-    ensures { result ≡ shown_of queued o }
-{
-    Out {
-        high: o.high & !queued,
-        low: o.low & !queued,
-        crit: o.crit & !queued,
-    }
+    bits::has(configuration, bits::FAULT_QUEUE) & (count < QUEUE)
 }
 
 // A bit of a byte, on or off.
@@ -131,13 +139,7 @@ fn live(l: Out, r: Out, broken: bool) -> u8
 pub fn latch(critical: bool, cleared: bool, old: bool) -> bool
     ensures { result ≡ latch_of critical cleared old }
 {
-    if critical {
-        true
-    } else if cleared {
-        false
-    } else {
-        old
-    }
+    critical | (!cleared & old)
 }
 
 // What a taken conversion leaves, given the local byte, the remote reading and whether the diode is broken open.
@@ -145,10 +147,10 @@ pub fn sense(s: [u8; 14], old: Sensed, local: u8, remote: i16, broken: bool) -> 
     ensures { result ≡ sensed_of s old local remote broken }
 {
     let here = temperature::eighths(local, 0);
-    let l = compare(here, local_limits(s));
-    let r = compare(remote, remote_limits(s));
-    let faults = count(old.faults, any(r));
-    let v = shown(queued(s[registers::CONFIGURATION], faults), r);
+    let l = local_limits(s).compare(here);
+    let r = remote_limits(s).compare(remote);
+    let faults = count(old.faults, r.any());
+    let v = r.shown(queued(s[registers::CONFIGURATION], faults));
     let lclear = temperature::cleared(here, s[registers::LOCAL_CRIT], s[registers::HYSTERESIS]);
     let rclear = temperature::cleared(remote, s[registers::REMOTE_CRIT], s[registers::HYSTERESIS]);
     Sensed {

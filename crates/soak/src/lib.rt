@@ -123,7 +123,7 @@ fn local_before(s: [u8; 14], t: Ends, local: u8) -> Made
     ensures { result ≡ local_before s t local }
 {
     let here = temperature::eighths(local, 0);
-    let out = conversion::compare(here, conversion::local_limits(s));
+    let out = conversion::local_limits(s).compare(here);
     let cleared = temperature::cleared(here, s[registers::LOCAL_CRIT], s[registers::HYSTERESIS]);
     through(t.local, out.crit, cleared)
 }
@@ -132,10 +132,10 @@ fn local_before(s: [u8; 14], t: Ends, local: u8) -> Made
 fn remote_before(s: [u8; 14], t: Ends, remote: i16, faults: u8) -> Made
     ensures { result ≡ remote_before s t remote faults }
 {
-    let out = conversion::compare(remote, conversion::remote_limits(s));
+    let out = conversion::remote_limits(s).compare(remote);
     let cleared = temperature::cleared(remote, s[registers::REMOTE_CRIT], s[registers::HYSTERESIS]);
-    let count = conversion::count(faults, conversion::any(out));
-    let v = conversion::shown(conversion::queued(s[registers::CONFIGURATION], count), out);
+    let count = conversion::count(faults, out.any());
+    let v = out.shown(conversion::queued(s[registers::CONFIGURATION], count));
     through(counted(t, count), v.crit, cleared)
 }
 

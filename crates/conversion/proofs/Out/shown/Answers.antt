@@ -1,6 +1,6 @@
 use Rattle.conversion.specs.Conversion.{shown_of}
 use borrow.Author.Rules.{rules}
-use Rattle.conversion.proofs.shown.Goals as goal
+use Rattle.conversion.proofs.Out.shown.Goals as goal
 
 pub returns : goal.returns
 unfolding shown_of

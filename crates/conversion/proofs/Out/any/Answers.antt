@@ -1,6 +1,6 @@
 use Rattle.conversion.specs.Conversion.{any_of}
 use borrow.Author.Rules.{rules}
-use Rattle.conversion.proofs.any.Goals as goal
+use Rattle.conversion.proofs.Out.any.Goals as goal
 
 pub returns : goal.returns
 unfolding any_of
