@@ -1,34 +1,64 @@
--- Entries up to a number: the highest that a test holds of, `highest_exactly`, and whether it holds of some, one entry more at a time.
+-- Entries up to a number: the highest that a test holds of, `highest_exactly`, and whether it holds of some, `found` and `not_found`. What src/table.rt finds of
+-- a table's entries is so of its pairs: `sorted_falls`, `some_out`, `last_stands`.
 -- Assumes nothing.
 use mathlib.Core.Path.{◌≡◌, refl, sym, ◌∙◌}
 use mathlib.Core.Logic.{◌↔◌}
-use mathlib.Core.List.{List, []}
-use mathlib.Core.Bool.{Bool, true, false, ◌||◌}
-use Prim.Native.Nat.{ℕ, zero, suc, ◌+◌, ◌-◌, ◌≤◌, ◌<◌}
+use mathlib.Core.List.{List, [], ◌∷◌}
+use mathlib.Core.Bool.{Bool, true, false, ◌||◌, not}
+use Prim.Native.Nat.{ℕ, zero, suc, ◌+◌, ◌≤◌, ◌<◌}
 use native.Mathlib.Numerals.{add-one}
 use native.Mathlib.Omega.{arith}
 use lib.Dec.{leb, ltb}
-use lib.ListN.{get_or}
+use lib.ListN.{get_or, length, take, length-map}
 use lib.IntN.{ℤ}
-use borrow.Author.Tests.{leb-true, leb-false, ltb-true, ltb-false}
+use borrow.Author.Tests.{leb-true, leb-false, ltb-true, ltb-false, le-ltb, lt-ltb}
 use Rattle.laws.proofs.Choices.{clash, cond_ind, by_test}
 use Rattle.laws.proofs.Exactly.{by_lines}
-use Rattle.fan.specs.Table.{entry_of, temperature_of, value_of, entry_stands, Highest, highest, step_of, some_of}
+use Rattle.std.specs.Prelude.{Option, None, Some, IfNone, IfSome}
+use Rattle.std.specs.Option.{option_map_or}
+use Rattle.std.specs.List.{IsAllAdjacentAnswer, AllAdjacentBelow, list_any}
+use Rattle.std.proofs.lemmas.List.{get_or-map, get_or_past, take_all}
+use Rattle.std.proofs.lemmas.List.Folds.{list_any_more}
+use Rattle.fan.specs.declared.table.Entry.{Entry}
+use Rattle.fan.specs.Table.{temperature_of, value_of, entry_stands, Highest, highest, step_of, some_of, falls_of, out_of}
+use Rattle.fan.specs.Entries.{pairs_of, stands_at}
+
+pub neither : (a b : Bool) → (a || b) ≡ false → (a ≡ false) × (b ≡ false)
+neither true b e = clash (sym e)
+neither false b e = (refl, e)
 
 module _ (f : ℕ → Bool) where
-  -- ---- one entry more
+  -- ---- some entry
 
-  pub some_more : (n : ℕ) → some_of f (n + 1) ≡ (some_of f n || f (suc n))
+  pub record Found (n : ℕ) : Type 0 where
+    pub entry : ℕ
+    pub first : 0 < entry
+    pub last : entry ≤ n
+    pub so : f entry ≡ true
+
+  pub found : (n : ℕ) → some_of f n ≡ true → Found n
   unfolding some_of
-  some_more n = rw (add-one n)
+  found zero e = clash e
+  found (suc n) e =
+      by_test (f (suc n)) (λ t. record { entry = suc n; first = omega arith; last = omega arith; so = t })
+      (λ t.
+      by_test (some_of f n)
+      (λ s. let r = found n s in record { entry = r.entry; first = r.first; last = omega (arith, r.last); so = r.so })
+      (λ s. clash (rw (s, t) at e)))
 
-  pub highest_more : (n : ℕ) → f (suc n) ≡ true → highest f (n + 1) ≡ n + 1
-  unfolding highest
-  highest_more n e = rw (add-one n) (rw e)
+  pub none_found : (n : ℕ) → some_of f n ≡ false → (k : ℕ) → 0 < k → k ≤ n → f k ≡ false
+  unfolding some_of
+  none_found zero e k p l = absurd (omega arith)
+  none_found (suc n) e k p l =
+      let each = neither (some_of f n) (f (suc n)) e in
+      by_test (leb k n) (λ t. none_found n each.0 k p (leb-true k n t))
+      (λ t. let q : k ≡ suc n = omega (arith, leb-false k n t) in rw q each.1)
 
-  pub highest_same : (n : ℕ) → f (suc n) ≡ false → highest f (n + 1) ≡ highest f n
-  unfolding highest
-  highest_same n e = rw (add-one n) (rw e)
+  pub is_found : (n k : ℕ) → 0 < k → k ≤ n → f k ≡ true → some_of f n ≡ true
+  is_found n k p l t = by_test (some_of f n) (λ s. s) (λ s. clash (sym (none_found n s k p l) ∙ t))
+
+  pub not_found : (n : ℕ) → ((k : ℕ) → 0 < k → k ≤ n → f k ≡ false) → some_of f n ≡ false
+  not_found n each = by_test (some_of f n) (λ s. let r = found n s in clash (sym (each r.entry r.first r.last) ∙ r.so)) (λ s. s)
 
   -- ---- the highest
 
@@ -69,13 +99,101 @@ falls_at table k = ltb (temperature_of table (suc k)) (temperature_of table k)
 abbrev pub out_at : List (List ℕ) → ℕ → Bool
 out_at table k = ltb 127 (temperature_of table k) || ltb 63 (value_of table k)
 
--- ---- where an entry stands
+-- ---- a table's entries
 
-pub entry_at : (table : List (List ℕ)) (k : ℕ) → (k ≡ 0 → ⊥) → entry_of table k ≡ get_or table (k - 1) []
-entry_at table zero h = absurd (h refl)
-entry_at table (suc i) h = let e : suc i - 1 ≡ i = omega arith in rw e
+abbrev pub none : Entry
+none = record { temperature = 0; value = 0 }
+
+pub pair_at : (xs : List Entry) (k : ℕ) (d : Entry) → k < length xs → get_or (pairs_of xs) k [] ≡ (get_or xs k d).temperature ∷ (get_or xs k d).value ∷ []
+pair_at xs k d h = get_or-map _ xs k d [] h
+
+-- a PWM value is that of the entry before the step's place, or 0
+pub value_listed : (xs : List Entry) (step value : ℕ) → (step ≡ 0 → value ≡ 0)
+    → ((i : ℕ) → step ≡ i + 1 → i < length xs → value ≡ (get_or xs i none).value)
+    → ((i : ℕ) → step ≡ i + 1 → length xs ≤ i → value ≡ 0) → value ≡ value_of (pairs_of xs) step
+value_listed xs zero value first some past = first refl
+value_listed xs (suc i) value first some past =
+    by_test (ltb i (length xs))
+    (λ t. let h = ltb-true _ _ t in rw (pair_at xs i none h) (some i (omega arith) h))
+    (λ t. let h = ltb-false _ _ t in rw (get_or_past (pairs_of xs) i [] (rw (length-map xs _) h)) (past i (omega arith) h))
+
+-- where each entry is at or below the next, none falls
+in_order : (xs : List Entry) → length xs ≡ 8 → AllAdjacentBelow (λ (x y : Entry). true ≡ leb x.temperature y.temperature) xs (length xs)
+    → (k : ℕ) → 0 < k → k ≤ 7 → falls_at (pairs_of xs) k ≡ false
+in_order xs l each zero p q = absurd (omega arith)
+in_order xs l each (suc k) p q =
+    let here = pair_at xs k none (omega (arith, l)) in
+    let next = pair_at xs (suc k) none (omega (arith, l)) in
+    let below : (get_or xs k none).temperature ≤ (get_or xs (suc k) none).temperature =
+    leb-true _ _ (rw (add-one k) at (sym (each k none (omega (arith, l))))) in
+    rw (here, next) (le-ltb _ _ below)
+
+-- the test of an entry and the next is false exactly where the table falls
+pub sorted_falls : (xs : List Entry) → length xs ≡ 8 → (r : Bool) → IsAllAdjacentAnswer (λ (x y : Entry) (b : Bool). b ≡ leb x.temperature y.temperature) xs r
+    → not r ≡ falls_of (pairs_of xs)
+unfolding falls_of
+sorted_falls xs l true each =
+    sym (not_found (falls_at (pairs_of xs)) 7 (in_order xs l each))
+sorted_falls xs l false one =
+    let k = one.0 in
+    let here = pair_at xs k none (omega (arith, one.1)) in
+    let next = pair_at xs (suc k) none (omega (arith, one.1)) in
+    let above : (get_or xs (suc k) none).temperature < (get_or xs k none).temperature = leb-false _ _ (rw (add-one k) at (sym (one.2 none))) in
+    sym (is_found (falls_at (pairs_of xs)) 7 (suc k) (omega arith) (omega (arith, l, one.1)) (rw (here, next) (lt-ltb _ _ above)))
+
+-- the test of the entry at a place
+pub stands_there : (xs : List Entry) → length xs ≡ 8 → (h e : ℕ) (r : ℤ) (i : ℕ) → i < 8 → entry_stands (pairs_of xs) h e r (suc i) ≡ stands_at xs h e r i
+stands_there xs l h e r i p = rw (pair_at xs i none (omega (arith, l)))
+
+-- where none stands the step is 0
+pub none_stands : (xs : List Entry) → length xs ≡ 8 → (h e : ℕ) (r : ℤ) → ((i : ℕ) → i < 8 → stands_at xs h e r i ≡ false) → step_of (pairs_of xs) h e r ≡ 0
+unfolding step_of
+none_stands xs l h e r each =
+    one_highest (entry_stands (pairs_of xs) h e r) 8 _ 0 (is_highest (entry_stands (pairs_of xs) h e r) 8)
+    (record { within = omega arith; holds = λ p. absurd (omega arith); above = above })
+  where
+    above : (k : ℕ) → 0 < k → k ≤ 8 → entry_stands (pairs_of xs) h e r k ≡ false
+    above zero p q = absurd (omega arith)
+    above (suc i) p q = stands_there xs l h e r i (omega arith) ∙ each i (omega arith)
+
+-- the last that stands is the step
+pub last_stands : (xs : List Entry) → length xs ≡ 8 → (h e : ℕ) (r : ℤ) (last : ℕ) → last < 8 → stands_at xs h e r last ≡ true
+    → ((i : ℕ) → last < i → i < 8 → stands_at xs h e r i ≡ false) → step_of (pairs_of xs) h e r ≡ last + 1
+unfolding step_of
+last_stands xs l h e r last p here each =
+    rw (add-one last)
+    (one_highest (entry_stands (pairs_of xs) h e r) 8 _ (suc last) (is_highest (entry_stands (pairs_of xs) h e r) 8)
+    (record { within = omega arith; holds = λ q. stands_there xs l h e r last p ∙ here; above = above }))
+  where
+    above : (k : ℕ) → suc last < k → k ≤ 8 → entry_stands (pairs_of xs) h e r k ≡ false
+    above zero q m = absurd (omega arith)
+    above (suc i) q m = stands_there xs l h e r i (omega arith) ∙ each i (omega arith) (omega arith)
+
+pub at_place : (xs : List Entry) → length xs ≡ 8 → (h e : ℕ) (r : ℤ) (place : Option ℕ)
+    → IfNone place ((i : ℕ) → i < 8 → stands_at xs h e r i ≡ false)
+    → IfSome place (λ (last : ℕ). (last < 8) × (stands_at xs h e r last ≡ true))
+    → IfSome place (λ (last : ℕ). (i : ℕ) → last < i → i < 8 → stands_at xs h e r i ≡ false)
+    → step_of (pairs_of xs) h e r ≡ option_map_or (λ (i : ℕ). i + 1) place 0
+at_place xs l h e r None each here above = none_stands xs l h e r each
+at_place xs l h e r (Some last) each here above = last_stands xs l h e r last here.0 here.1 above
+
+-- some element passes exactly if the test of an entry holds of some
+pub some_listed : {A : Type 0} (p : A → Bool) (f : ℕ → Bool) (xs : List A) (d : A) (n : ℕ) → n ≤ length xs
+    → ((k : ℕ) → k < length xs → f (suc k) ≡ p (get_or xs k d)) → list_any p (take n xs) ≡ some_of f n
+unfolding some_of
+some_listed p f xs d zero h same = refl
+some_listed p f xs d (suc n) h same =
+    let more = rw (add-one n) at (list_any_more p xs n d (omega arith)) in
+    more ∙ rw (some_listed p f xs d n (omega arith) same, same n (omega arith))
 
 -- a step is an entry or none
 pub step_within : (table : List (List ℕ)) (hysteresis earlier : ℕ) (reading : ℤ) → step_of table hysteresis earlier reading ≤ 8
 unfolding step_of
 step_within table hysteresis earlier reading = (is_highest (entry_stands table hysteresis earlier reading) 8).within
+
+-- some entry is out of its range exactly if its pair is
+pub some_out : (xs : List Entry) → length xs ≡ 8 → list_any (λ (e : Entry). ltb 127 e.temperature || ltb 63 e.value) xs ≡ out_of (pairs_of xs)
+unfolding out_of
+some_out xs l =
+    let all = take_all 8 xs (omega (arith, l)) in
+    rw all at (some_listed (λ (e : Entry). ltb 127 e.temperature || ltb 63 e.value) (out_at (pairs_of xs)) xs none 8 (omega (arith, l)) (λ k h. rw (pair_at xs k none h)))

@@ -2,7 +2,7 @@
 -- Assumes nothing.
 use mathlib.Core.Path.{◌≡◌, refl, sym, ◌∙◌}
 use mathlib.Core.Logic.{◌↔◌}
-use Prim.Native.Nat.{ℕ, zero, suc, ◌+◌, ◌*◌, ◌/◌, ◌%◌, ◌<◌, ◌≤◌}
+use Prim.Native.Nat.{ℕ, zero, suc, ◌+◌, ◌*◌, ◌/◌, ◌%◌, ◌<◌, ◌≤◌, max}
 use native.Mathlib.Omega.{arith}
 use native.Mathlib.Nat.{div-add-mod', mod-lt, div-lt_iff_lt-mul, lt_of_mul-lt-mul_right, mul-div-mul_left}
 use lib.Dec.{leb}
@@ -80,3 +80,9 @@ rounded a n h = rw (halved a n) at (is_nearest a (2 * n) (omega arith))
 
 pub small : (v n m : ℕ) → v < 2 * n → m ≤ n → (10000 * v + m) / (2 * n) < 65536
 small v n m h k = let p : 0 < 2 * n = omega arith in (div-lt_iff_lt-mul p).1 (omega arith)
+
+-- ---- frequency 0 counts as 1
+
+pub counted_max : (n : ℕ) → max n 1 ≡ counted_of n
+counted_max zero = refl
+counted_max (suc n) = rw (ne_eqb (suc n) 0 (λ e. omega arith)) (omega arith)

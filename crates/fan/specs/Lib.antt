@@ -1,5 +1,7 @@
 pub mod Table
+pub mod Entries
 pub mod Drive
 pub mod Fan
+pub mod Answers
 pub mod Opened
 pub mod Examples

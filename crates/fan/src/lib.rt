@@ -1,16 +1,14 @@
 #![tactic(auto)]
 
 // The fan side of the LM63 (request g): a table of eight steps, the duty of a PWM value and the preset of about 75 percent. It stands beside the sensor.
-ghost use Rattle.std.specs.Prelude.{◌≡◌};
-ghost use Rattle.fan.specs.Fan.{code_of, refuses_of, step_answer_of, duty_answer_of, preset_answer_of};
+ghost use Rattle.std.specs.Prelude.{◌≡◌, ◌≤◌, ◌<◌, MatchResult};
+ghost use Rattle.fan.specs.Fan.{duty_answer_of, preset_answer_of};
+ghost use Rattle.fan.specs.Answers.{told_of};
+
+use table::Table;
 
 pub mod drive;
 pub mod table;
-
-// Codes: temperatures that fall along the table, and a number out of its range.
-const FALLING: u8 = 11;
-
-const OPERAND: u8 = 4;
 
 const HYSTERESIS_MOST: u8 = 31;
 
@@ -25,7 +23,22 @@ pub struct Fan {
     pub frequency: u8,
 }
 
-// A code, and the step, its PWM value and the duty in hundredths of a percent.
+// The entry that is in force, 0 for none, its PWM value and the duty in hundredths of a percent.
+#[derive(Debug, Clone, Copy, PartialEq, Eq)]
+pub struct Step {
+    pub number: u8,
+    pub value: u8,
+    pub duty: u16,
+}
+
+// Temperatures that fall along the table, or a number out of its range, each with its code.
+#[derive(Debug, Clone, Copy, PartialEq, Eq)]
+pub enum Refusal {
+    Operand = 4,
+    Falling = 11,
+}
+
+// What C gets: a code, and the step, its PWM value and the duty in hundredths of a percent.
 #[repr(C)]
 #[derive(Drop)]
 pub struct Driven {
@@ -35,7 +48,7 @@ pub struct Driven {
     pub duty: u16,
 }
 
-// A code and a number.
+// What C gets: a code and a number.
 #[repr(C)]
 #[derive(Drop)]
 pub struct Number {
@@ -43,85 +56,116 @@ pub struct Number {
     pub value: u16,
 }
 
-// 11, then 4, else 0.
-fn code(table: [[u8; 2]; 8], hysteresis: u8, frequency: u8, earlier: u8) -> u8
-    ensures { result ≡ code_of table hysteresis frequency earlier }
-{
-    if table::falls(table) {
-        return FALLING;
+impl From<Refusal> for u8 {
+    ghost use Rattle.fan.specs.Answers.{refusal_code};
+
+    ghost from_gives = { λ refusal code. code ≡ refusal_code refusal };
+
+    fn from(refusal: Refusal) -> u8 {
+        refusal as u8
     }
-    if table::out_of_range(table)
-        | (HYSTERESIS_MOST < hysteresis)
-        | (FREQUENCY_MOST < frequency)
-        | (table::ENTRIES < earlier)
+}
+
+impl From<Result<Step, Refusal>> for Driven {
+    ghost use Rattle.fan.specs.Answers.{driven_of};
+
+    ghost from_gives = { λ answer driven. driven ≡ driven_of answer };
+
+    fn from(answer: Result<Step, Refusal>) -> Driven {
+        match answer {
+            Ok(step) => Driven {
+                code: 0,
+                step: step.number,
+                value: step.value,
+                duty: step.duty,
+            },
+            Err(refusal) => Driven {
+                code: refusal.into(),
+                step: 0,
+                value: 0,
+                duty: 0,
+            },
+        }
+    }
+}
+
+impl From<Result<u16, Refusal>> for Number {
+    ghost use Rattle.fan.specs.Answers.{told_of};
+
+    ghost from_gives = { λ answer number. number ≡ told_of answer };
+
+    fn from(answer: Result<u16, Refusal>) -> Number {
+        match answer {
+            Ok(value) => Number { code: 0, value },
+            Err(refusal) => Number {
+                code: refusal.into(),
+                value: 0,
+            },
+        }
+    }
+}
+
+impl Fan {
+    ghost use Rattle.fan.specs.Entries.{pairs_of};
+    ghost use Rattle.fan.specs.Fan.{code_of, step_answer_of};
+    ghost use Rattle.fan.specs.Answers.{code_told, driven_of};
+
+    // 11, then 4, else nothing.
+    fn check(&self, table: &Table, earlier: u8) -> Result<(), Refusal>
+        ensures { code_told result ≡ code_of (pairs_of table.now.entries) self.now.hysteresis self.now.frequency earlier }
     {
-        return OPERAND;
+        if table.falls() {
+            return Err(Refusal::Falling);
+        }
+        if table.out_of_range()
+            | (HYSTERESIS_MOST < self.hysteresis)
+            | (FREQUENCY_MOST < self.frequency)
+            | (table::ENTRIES < usize::from(earlier))
+        {
+            return Err(Refusal::Operand);
+        }
+        Ok(())
     }
-    0
+
+    // The step after a reading, with its PWM value and its duty.
+    pub fn step(&self, earlier: u8, reading: i8) -> Result<Step, Refusal>
+        ensures { driven_of result ≡ step_answer_of self.now earlier reading }
+    {
+        let table = Table::from(self.table);
+        self.check(&table, earlier)?;
+        let number = table.step(self.hysteresis, earlier, reading);
+        let value = table.value(number);
+        Ok(Step {
+            number,
+            value,
+            duty: drive::duty(self.frequency, value),
+        })
+    }
 }
 
-fn refused(code: u8) -> Driven
-    ensures { result ≡ refuses_of code }
+// A number is at most the greatest of its range.
+fn within(number: u8, most: u8) -> Result<(), Refusal>
+    ensures { MatchResult result (λ _. number ≤ most) (λ refusal. (refusal ≡ Refusal.Operand) × (most < number)) }
 {
-    Driven {
-        code,
-        step: 0,
-        value: 0,
-        duty: 0,
+    if most < number {
+        return Err(Refusal::Operand);
     }
-}
-
-// The step after a reading, with its PWM value and its duty.
-#[unsafe(no_mangle)]
-pub extern "C" fn lm89_fan_step(fan: Fan, earlier: u8, reading: i8) -> Driven
-    ensures { result ≡ step_answer_of fan earlier reading }
-{
-    let bytes = fan.table;
-    let table = table::of(bytes);
-    let code = code(table, fan.hysteresis, fan.frequency, earlier);
-    if code != 0 {
-        return refused(code);
-    }
-    let step = table::step(table, fan.hysteresis, earlier, reading);
-    let value = table::value(table, step);
-    Driven {
-        code,
-        step,
-        value,
-        duty: drive::duty(fan.frequency, value),
-    }
+    Ok(())
 }
 
 // The duty of a PWM value, in hundredths of a percent.
-#[unsafe(no_mangle)]
-pub extern "C" fn lm89_fan_duty(frequency: u8, value: u8) -> Number
-    ensures { result ≡ duty_answer_of frequency value }
+pub fn duty(frequency: u8, value: u8) -> Result<u16, Refusal>
+    ensures { told_of result ≡ duty_answer_of frequency value }
 {
-    if (FREQUENCY_MOST < frequency) | (table::VALUE_MOST < value) {
-        return Number {
-            code: OPERAND,
-            value: 0,
-        };
-    }
-    Number {
-        code: 0,
-        value: drive::duty(frequency, value),
-    }
+    within(frequency, FREQUENCY_MOST)?;
+    within(value, table::VALUE_MOST)?;
+    Ok(drive::duty(frequency, value))
 }
 
 // The PWM value for about 75 percent.
-#[unsafe(no_mangle)]
-pub extern "C" fn lm89_fan_preset(frequency: u8) -> Number
-    ensures { result ≡ preset_answer_of frequency }
+pub fn preset(frequency: u8) -> Result<u16, Refusal>
+    ensures { told_of result ≡ preset_answer_of frequency }
 {
-    if FREQUENCY_MOST < frequency {
-        return Number {
-            code: OPERAND,
-            value: 0,
-        };
-    }
-    Number {
-        code: 0,
-        value: drive::preset(frequency),
-    }
+    within(frequency, FREQUENCY_MOST)?;
+    Ok(drive::preset(frequency))
 }

@@ -10,7 +10,7 @@ use fan::{Driven, Fan, Number};
 pub extern "C" fn lm89_fan_step(fan: Fan, earlier: u8, reading: i8) -> Driven
     ensures { result ≡ step_answer_of fan earlier reading }
 {
-    fan::lm89_fan_step(fan, earlier, reading)
+    fan.step(earlier, reading).into()
 }
 
 // The duty of a PWM value, in hundredths of a percent.
@@ -18,7 +18,7 @@ pub extern "C" fn lm89_fan_step(fan: Fan, earlier: u8, reading: i8) -> Driven
 pub extern "C" fn lm89_fan_duty(frequency: u8, value: u8) -> Number
     ensures { result ≡ duty_answer_of frequency value }
 {
-    fan::lm89_fan_duty(frequency, value)
+    fan::duty(frequency, value).into()
 }
 
 // The PWM value for about 75 percent.
@@ -26,5 +26,5 @@ pub extern "C" fn lm89_fan_duty(frequency: u8, value: u8) -> Number
 pub extern "C" fn lm89_fan_preset(frequency: u8) -> Number
     ensures { result ≡ preset_answer_of frequency }
 {
-    fan::lm89_fan_preset(frequency)
+    fan::preset(frequency).into()
 }

@@ -1,65 +1,28 @@
 -- Each code is given exactly when its line says so: `codes` of a step, `duty_codes` and `preset_codes`. A refusal has 0 in every other number: `refused`,
 -- `duty_refused`, `preset_refused`. What is not refused is the duty or the preset: `duty_answered`, `preset_answered`.
 -- Assumes nothing.
-use mathlib.Core.Path.{◌≡◌, refl, sym, ap, ◌∙◌}
+use mathlib.Core.Path.{◌≡◌, sym, ap, ◌∙◌}
 use mathlib.Core.Logic.{◌↔◌}
 use mathlib.Core.Bool.{Bool, true, false, ◌||◌, cond}
 use mathlib.Core.List.{List}
-use Prim.Native.Nat.{ℕ, zero, suc, ◌≤◌, ◌<◌}
+use Prim.Native.Nat.{ℕ, ◌≤◌, ◌<◌}
 use native.Mathlib.Omega.{arith}
-use lib.Dec.{leb, ltb, eqb}
+use lib.Dec.{ltb, eqb}
 use lib.IntN.{ℤ}
-use borrow.Author.Tests.{eqb-true, eqb-false, leb-true, leb-false, ltb-true, ltb-false, lt-ltb, le-ltb}
+use borrow.Author.Tests.{eqb-true, eqb-false, ltb-true, ltb-false, lt-ltb, le-ltb}
 use Rattle.laws.proofs.Choices.{clash, by_test}
 use Rattle.laws.proofs.Exactly.{by_lines}
 use Rattle.fan.specs.declared.Fan.{Fan}
 use Rattle.fan.specs.declared.Driven.{Driven}
 use Rattle.fan.specs.declared.Number.{Number}
-use Rattle.fan.specs.Table.{table_of, temperature_of, value_of, some_of, falls_of, out_of}
+use Rattle.fan.specs.Table.{table_of, temperature_of, value_of, falls_of, out_of}
 use Rattle.fan.specs.Fan.{code_of, refuses_of, step_answer_of, no_number, number_of, duty_answer_of, preset_answer_of}
 use Rattle.fan.specs.Drive.{duty_of, preset_of}
-use Rattle.fan.proofs.Entries.{falls_at, out_at}
+use Rattle.fan.proofs.Entries.{neither, found, none_found, is_found, not_found, falls_at, out_at}
 use Rattle.fan.proofs.Answers.{given, answered, refuses}
 use Rattle.fan_laws.specs.Ranges.{Falls, NeverFalls, InRange, Gives, DutyInRange, PresetInRange, NumberGives}
 use Rattle.fan_laws.specs.Ranges.Gives.{falling, outside, good}
 use Rattle.fan_laws.specs.Ranges.NumberGives.{none, some}
-
-neither : (a b : Bool) → (a || b) ≡ false → (a ≡ false) × (b ≡ false)
-neither true b e = clash (sym e)
-neither false b e = (refl, e)
-
--- ---- some entry
-
-module _ (f : ℕ → Bool) where
-  record Found (n : ℕ) : Type 0 where
-    entry : ℕ
-    first : 0 < entry
-    last : entry ≤ n
-    so : f entry ≡ true
-
-  found : (n : ℕ) → some_of f n ≡ true → Found n
-  unfolding some_of
-  found zero e = clash e
-  found (suc n) e =
-      by_test (f (suc n)) (λ t. record { entry = suc n; first = omega arith; last = omega arith; so = t })
-      (λ t.
-      by_test (some_of f n)
-      (λ s. let r = found n s in record { entry = r.entry; first = r.first; last = omega (arith, r.last); so = r.so })
-      (λ s. clash (rw (s, t) at e)))
-
-  none_found : (n : ℕ) → some_of f n ≡ false → (k : ℕ) → 0 < k → k ≤ n → f k ≡ false
-  unfolding some_of
-  none_found zero e k p l = absurd (omega arith)
-  none_found (suc n) e k p l =
-      let each = neither (some_of f n) (f (suc n)) e in
-      by_test (leb k n) (λ t. none_found n each.0 k p (leb-true k n t))
-      (λ t. let q : k ≡ suc n = omega (arith, leb-false k n t) in rw q each.1)
-
-  is_found : (n k : ℕ) → 0 < k → k ≤ n → f k ≡ true → some_of f n ≡ true
-  is_found n k p l t = by_test (some_of f n) (λ s. s) (λ s. clash (sym (none_found n s k p l) ∙ t))
-
-  not_found : (n : ℕ) → ((k : ℕ) → 0 < k → k ≤ n → f k ≡ false) → some_of f n ≡ false
-  not_found n each = by_test (some_of f n) (λ s. let r = found n s in clash (sym (each r.entry r.first r.last) ∙ r.so)) (λ s. s)
 
 -- ---- a table that falls, and one that does not
 

@@ -1,13 +1,19 @@
 use native.Mathlib.Omega.{arith}
-use Rattle.fan.proofs.Rounds.{rounded, small}
+use Prim.Native.Nat.{◌*◌}
+use Rattle.fan.specs.Drive.{counted_of}
+use Rattle.fan.proofs.Rounds.{rounded, small, counts, counted_max}
+use mathlib.Core.Path.{◌∙◌}
 use Rattle.fan.proofs.drive.duty.Goals as goal
 
-pub overflow_cast-result-2 : goal.overflow_cast-result-2
-overflow_cast-result-2 c = record { fits = small _ _ _ c.if-n-v.false (omega arith) }
+pub overflow_cast-result : goal.overflow_cast-result
+overflow_cast-result c = rw c.from.ensures (record { fits = small _ _ _ c.if-n-v.false (omega arith) })
 
 pub returns : goal.returns
 returns c =
-    record {
-      part = λ h. rw (← c.counted-n.ensures) (rounded _ _ (omega (arith, c.if-n-v.false)));
-      all = λ h. absurd (omega (arith, h, c.if-n-v.false, c.counted-n.ensures));
-    }
+    let n = c.from-n.ensures ∙ c.max.ensures ∙ counted_max _ in
+    let less = rw (n, c.from-v.ensures) at c.if-n-v.false in
+    rw (c.from.ensures, c.from-v.ensures, n)
+    (record {
+      part = λ h. rounded (10000 * c.args.value) (counted_of c.args.frequency) (counts c.args.frequency);
+      all = λ h. absurd (omega (arith, h, less));
+    })

@@ -1,13 +1,18 @@
-use mathlib.Core.Path.{sym}
+use mathlib.Core.Path.{◌∙◌}
+use native.Mathlib.Omega.{arith}
 use borrow.Author.Tests.{eq-eqb, ne_eqb}
 use Rattle.fan.specs.Drive.{preset_of}
-use Rattle.fan.proofs.Rounds.{halved}
+use Rattle.fan.proofs.Rounds.{halved, counted_max}
 use Rattle.fan.proofs.drive.preset.Goals as goal
 
 pub returns-then-n-eq1 : goal.returns-then-n-eq1
 unfolding preset_of
-returns-then-n-eq1 c = rw (← c.counted-n.ensures, eq-eqb _ _ c.if-n-eq1.true)
+returns-then-n-eq1 c =
+    let n = c.from-n.ensures ∙ c.max.ensures ∙ counted_max _ in
+    rw (← n, eq-eqb _ _ c.if-n-eq1.true)
 
 pub returns : goal.returns
 unfolding preset_of
-returns c = rw (← c.counted-n.ensures, ne_eqb _ _ c.if-n-eq1.false) (sym (halved _ 1))
+returns c =
+    let n = c.from-n.ensures ∙ c.max.ensures ∙ counted_max _ in
+    rw (c.div_ceil.ensures, ← n, ne_eqb _ _ c.if-n-eq1.false, halved _ 1) (omega arith)

@@ -1,0 +1,12 @@
+use mir.Facts.{to_z-of_z}
+use Rattle.fan.specs.Table.{stands_of}
+use Rattle.fan.proofs.Signed.{wide, pos_fits, less_fits}
+use Rattle.fan.proofs.table.Entry.stands.Goals as goal
+
+pub returns : goal.returns
+unfolding stands_of
+returns c =
+    let t = rw c.from-temperature.ensures at c.from-temperature.type_inv in
+    let h = rw c.from.ensures at c.from.type_inv in
+    let r = to_z-of_z c.ranges.reading in
+    rw (c.from-temperature.ensures, c.from.ensures, c.from-reading.ensures, r, to_z-of_z (wide c.ranges.reading), to_z-of_z (pos_fits _ t), to_z-of_z (pos_fits _ h), to_z-of_z (less_fits _ _ t h))

@@ -1,0 +1,11 @@
+use Rattle.std.proofs.Common.{rules, ◌≡◌, ℕ, ◌<◌, ◌≤◌, ◌+◌, length}
+use lib.ListN.{get_or}
+use Rattle.fan.proofs.Entries.{none, value_listed}
+use Rattle.fan.proofs.table.Table.value.Goals as goal
+
+pub returns : goal.returns
+returns c =
+    let first : c.args.step ≡ 0 → c.map_or.result ≡ 0 = λ e. search rules in
+    let some : (i : ℕ) → c.args.step ≡ i + 1 → i < length c.args.self.now.entries → c.map_or.result ≡ (get_or c.args.self.now.entries i none).value = λ i e h. search rules in
+    let past : (i : ℕ) → c.args.step ≡ i + 1 → length c.args.self.now.entries ≤ i → c.map_or.result ≡ 0 = λ i e h. search rules in
+    value_listed c.args.self.now.entries c.args.step c.map_or.result first some past
