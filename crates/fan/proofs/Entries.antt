@@ -1,5 +1,5 @@
--- Entries up to a number: the highest that a test holds of, `highest_exactly`, and whether it holds of some, `found` and `not_found`. What src/table.rt finds of
--- a table's entries is so of its pairs: `sorted_falls`, `some_out`, `last_stands`.
+-- Entries up to a number: the highest that a test holds of, `highest_exactly`, and whether it holds of some, `found` and `not_found`. What src/table.rt finds
+-- of a table's entries is so of its pairs: `sorted_falls`, `some_out`, `last_stands`.
 -- Assumes nothing.
 use mathlib.Core.Path.{◌≡◌, refl, sym, ◌∙◌}
 use mathlib.Core.Logic.{◌↔◌}
@@ -196,4 +196,5 @@ pub some_out : (xs : List Entry) → length xs ≡ 8 → list_any (λ (e : Entry
 unfolding out_of
 some_out xs l =
     let all = take_all 8 xs (omega (arith, l)) in
-    rw all at (some_listed (λ (e : Entry). ltb 127 e.temperature || ltb 63 e.value) (out_at (pairs_of xs)) xs none 8 (omega (arith, l)) (λ k h. rw (pair_at xs k none h)))
+    let out : Entry → Bool = λ e. ltb 127 e.temperature || ltb 63 e.value in
+    rw all at (some_listed out (out_at (pairs_of xs)) xs none 8 (omega (arith, l)) (λ k h. rw (pair_at xs k none h)))

@@ -12,4 +12,5 @@ entries_of table = map (λ (pair : List ℕ). record { temperature = get_or pair
 
 -- the entry at place i, which is entry i + 1, stands: it is up to the earlier step if i is below that
 abbrev pub stands_at : List Entry → ℕ → ℕ → ℤ → ℕ → Bool
-stands_at entries hysteresis earlier reading i = stands_of (get_or entries i (record { temperature = 0; value = 0 })).temperature hysteresis (ltb i earlier) reading
+stands_at entries hysteresis earlier reading i =
+    stands_of (get_or entries i (record { temperature = 0; value = 0 })).temperature hysteresis (ltb i earlier) reading

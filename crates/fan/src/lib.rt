@@ -15,6 +15,7 @@ const HYSTERESIS_MOST: u8 = 31;
 const FREQUENCY_MOST: u8 = 31;
 
 // The table's sixteen bytes: eight times a temperature and its PWM value.
+// Kept as bytes: the theorems on `step_answer_of`, as `zero_step`, name them.
 #[repr(C)]
 #[derive(Drop)]
 pub struct Fan {
@@ -38,7 +39,8 @@ pub enum Refusal {
     Falling = 11,
 }
 
-// What C gets: a code, and the step, its PWM value and the duty in hundredths of a percent.
+// A code, and the step, its PWM value and the duty in hundredths of a percent.
+// Kept: the C interface (struct lm89_driven) has a code beside the numbers.
 #[repr(C)]
 #[derive(Drop)]
 pub struct Driven {
@@ -48,7 +50,8 @@ pub struct Driven {
     pub duty: u16,
 }
 
-// What C gets: a code and a number.
+// A code and a number.
+// Kept: the C interface (struct lm89_number) has a code beside the number.
 #[repr(C)]
 #[derive(Drop)]
 pub struct Number {
@@ -111,8 +114,8 @@ impl Fan {
     ghost use Rattle.fan.specs.Answers.{code_told, driven_of};
 
     // 11, then 4, else nothing.
-    fn check(&self, table: &Table, earlier: u8) -> Result<(), Refusal>
-        ensures { code_told result ≡ code_of (pairs_of table.now.entries) self.now.hysteresis self.now.frequency earlier }
+    fn check(&self, table: Table, earlier: u8) -> Result<(), Refusal>
+        ensures { code_told result ≡ code_of (pairs_of table.entries) self.now.hysteresis self.now.frequency earlier }
     {
         if table.falls() {
             return Err(Refusal::Falling);
@@ -132,7 +135,7 @@ impl Fan {
         ensures { driven_of result ≡ step_answer_of self.now earlier reading }
     {
         let table = Table::from(self.table);
-        self.check(&table, earlier)?;
+        self.check(table, earlier)?;
         let number = table.step(self.hysteresis, earlier, reading);
         let value = table.value(number);
         Ok(Step {

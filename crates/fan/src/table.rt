@@ -16,6 +16,7 @@ pub struct Entry {
     pub value: u8,
 }
 
+// Entries 1 to 8, at the places 0 to 7.
 #[derive(Clone, Copy)]
 pub struct Table {
     pub entries: [Entry; ENTRIES],
@@ -57,8 +58,8 @@ impl Table {
     ghost use Rattle.fan.specs.Entries.{pairs_of, stands_at};
 
     // Some temperature is below the one before it.
-    pub fn falls(&self) -> bool
-        ensures { result ≡ falls_of (pairs_of self.now.entries) }
+    pub fn falls(self) -> bool
+        ensures { result ≡ falls_of (pairs_of self.entries) }
     {
         !self
             .entries
@@ -66,18 +67,18 @@ impl Table {
     }
 
     // Some temperature or PWM value is out of its range.
-    pub fn out_of_range(&self) -> bool
-        ensures { result ≡ out_of (pairs_of self.now.entries) }
+    pub fn out_of_range(self) -> bool
+        ensures { result ≡ out_of (pairs_of self.entries) }
     {
         self.entries.iter().any(|entry| (TEMPERATURE_MOST < entry.temperature)
             | (VALUE_MOST < entry.value))
     }
 
     // The place of the highest entry that stands, from 0.
-    fn highest(&self, hysteresis: u8, earlier: u8, reading: i8) -> Option<usize>
-        ensures none { IfNone result ((i : ℕ) → i < 8 → stands_at self.now.entries hysteresis earlier reading i ≡ false) }
-        ensures here { IfSome result (λ last. (last < 8) × (stands_at self.now.entries hysteresis earlier reading last ≡ true)) }
-        ensures above { IfSome result (λ last. (i : ℕ) → last < i → i < 8 → stands_at self.now.entries hysteresis earlier reading i ≡ false) }
+    fn highest(self, hysteresis: u8, earlier: u8, reading: i8) -> Option<usize>
+        ensures none { IfNone result ((i : ℕ) → i < 8 → stands_at self.entries hysteresis earlier reading i ≡ false) }
+        ensures here { IfSome result (λ last. (last < 8) × (stands_at self.entries hysteresis earlier reading last ≡ true)) }
+        ensures above { IfSome result (λ last. (i : ℕ) → last < i → i < 8 → stands_at self.entries hysteresis earlier reading i ≡ false) }
     {
         self.entries
             .iter()
@@ -88,16 +89,16 @@ impl Table {
     }
 
     // The highest entry that stands, 0 for none.
-    pub fn step(&self, hysteresis: u8, earlier: u8, reading: i8) -> u8
-        ensures { result ≡ step_of (pairs_of self.now.entries) hysteresis earlier reading }
+    pub fn step(self, hysteresis: u8, earlier: u8, reading: i8) -> u8
+        ensures { result ≡ step_of (pairs_of self.entries) hysteresis earlier reading }
     {
         self.highest(hysteresis, earlier, reading)
             .map_or(0, |i| i as u8 + 1)
     }
 
     // The PWM value of a step; of no entry 0.
-    pub(crate) fn value(&self, step: u8) -> u8
-        ensures { result ≡ value_of (pairs_of self.now.entries) step }
+    pub(crate) fn value(self, step: u8) -> u8
+        ensures { result ≡ value_of (pairs_of self.entries) step }
     {
         step.checked_sub(1)
             .and_then(|i| self.entries.get(usize::from(i)))

@@ -10,5 +10,6 @@ use Rattle.fan.proofs.table.Table.out_of_range.Goals as goal
 pub returns : goal.returns
 returns c =
     let out : Entry → Bool = λ e. ltb 127 e.temperature || ltb 63 e.value in
-    let any = any_from_yields_List out _ _ c.any.result c.any.ensures.ran (YieldsList-from_slice c.args.self.now.entries (cc)) (λ x b q k. search (rules, tests)) in
-    any ∙ some_out c.args.self.now.entries (search rules)
+    let any =
+    any_from_yields_List out _ _ c.any.result c.any.ensures.ran (YieldsList-from_slice c.args.self.entries (cc)) (λ x b q k. search (rules, tests)) in
+    any ∙ some_out c.args.self.entries (search rules)

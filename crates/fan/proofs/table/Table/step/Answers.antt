@@ -9,4 +9,4 @@ pub returns : goal.returns
 returns c =
     let h = rw (to_z-of_z c.ranges.reading) at c.highest.ensures in
     let step : c.map_or.result ≡ option_map_or (λ (i : ℕ). i + 1) c.highest.result 0 = search rules in
-    step ∙ sym (at_place c.args.self.now.entries (search rules) c.args.hysteresis c.args.earlier c.args.reading c.highest.result h.none h.here h.above)
+    step ∙ sym (at_place c.args.self.entries (search rules) c.args.hysteresis c.args.earlier c.args.reading c.highest.result h.none h.here h.above)

@@ -5,7 +5,8 @@ use Rattle.fan.proofs.table.Table.value.Goals as goal
 
 pub returns : goal.returns
 returns c =
+    let xs = c.args.self.entries in
     let first : c.args.step ≡ 0 → c.map_or.result ≡ 0 = λ e. search rules in
-    let some : (i : ℕ) → c.args.step ≡ i + 1 → i < length c.args.self.now.entries → c.map_or.result ≡ (get_or c.args.self.now.entries i none).value = λ i e h. search rules in
-    let past : (i : ℕ) → c.args.step ≡ i + 1 → length c.args.self.now.entries ≤ i → c.map_or.result ≡ 0 = λ i e h. search rules in
-    value_listed c.args.self.now.entries c.args.step c.map_or.result first some past
+    let some : (i : ℕ) → c.args.step ≡ i + 1 → i < length xs → c.map_or.result ≡ (get_or xs i none).value = λ i e h. search rules in
+    let past : (i : ℕ) → c.args.step ≡ i + 1 → length xs ≤ i → c.map_or.result ≡ 0 = λ i e h. search rules in
+    value_listed xs c.args.step c.map_or.result first some past
