@@ -68,7 +68,7 @@ impl Out {
 }
 
 // P4: so many remote readings in a row, each outside a limit, let the remote bits through the fault queue.
-pub const QUEUE: u8 = 3;
+const QUEUE: u8 = 3;
 
 // P2, request b: the remote reading of a sample, and whether it was held.
 pub fn reading(s: [u8; 14], high: u8, low: u8) -> Reading
@@ -77,6 +77,7 @@ pub fn reading(s: [u8; 14], high: u8, low: u8) -> Reading
     temperature::held_sum(high, low, s[registers::OFFSET], s[registers::OFFSET_PART])
 }
 
+// Kept apart from the remote ones: a local limit has no low byte, and one function over the numbers of six settings says it no plainer.
 pub fn local_limits(s: [u8; 14]) -> Limits
     ensures { result ≡ local_limits_of s }
 {
@@ -115,7 +116,7 @@ pub fn queued(configuration: u8, count: u8) -> bool
     bits::has(configuration, bits::FAULT_QUEUE) & (count < QUEUE)
 }
 
-// A bit of a byte, on or off.
+// A bit of a byte, on or off. Kept: `u8::from(on) * bit` says it no plainer.
 pub fn bit(on: bool, bit: u8) -> u8
     ensures { result ≡ bit_of on bit }
 {

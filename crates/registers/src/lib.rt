@@ -92,7 +92,7 @@ pub fn kept(reg: u8) -> u8
     page::row_of(reg).kept
 }
 
-// The fourteen bytes at power-on; none but variants 1 to 3 has a table.
+// The fourteen bytes at power-on; none but variants 1 to 3 has a table. Kept: a variant is a number, since C's struct lm89_device has any byte there.
 pub fn power_on(variant: u8) -> [u8; 14]
     ensures { result ≡ power_on_of variant }
 {

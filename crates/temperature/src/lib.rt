@@ -60,7 +60,7 @@ pub fn open_reading() -> Reading
     }
 }
 
-// P3: strictly above a limit.
+// P3: strictly above a limit. Kept beside `<`, as `below` is: the edits above_or_equal and below_or_equal are of these two.
 pub fn above(t: i16, limit: i16) -> bool
     ensures { result ≡ above_of t limit }
 {
