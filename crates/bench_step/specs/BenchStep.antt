@@ -1,17 +1,21 @@
 -- The bench's device, stepped by an event that is given as its record's four bytes, since an exported function takes no enum. On the
--- bytes of an event it is the step by value (proofs/Twin.antt: is-the-step); 3 is for bytes that are no event's, and for the second
+-- bytes of an event it is the step by value (proofs/Twin.antt: is_the_step); 3 is for bytes that are no event's, and for the second
 -- device's (request c).
 -- Assumes nothing.
-use Rattle.std.specs.Prelude.{ℕ, ◌&&◌, cond}
+use Rattle.std.specs.Prelude.{ℕ, ◌&&◌, cond, Result, Ok, Err}
 use Rattle.device.specs.declared.Device.{Device}
-use Rattle.device.specs.declared.Stepped.{Stepped}
+use Rattle.device.specs.declared.Refusal.{Refusal}
 use Rattle.device.specs.Bus.{powered_of, zero_device}
 use Rattle.device.specs.Ranges.{variant_of, ranged_of}
-use Rattle.device.specs.Step.{step_of}
+use Rattle.device.specs.Step.{Stepped, refusal_code_of, step_of}
 use Rattle.record.specs.Record.{Record}
-use Rattle.std.specs.Prelude.{Ok, Err}
 use Rattle.record.specs.Record.{decode_of, code_of}
-use Rattle.bench_step.specs.declared.Taken.{Taken}
+use Rattle.bench_step.specs.declared.Answer.{Answer}
+
+-- the device after a step, and the step's answer
+pub record Taken : Type 0 where
+  pub device : Device
+  pub answer : Answer
 
 -- a refusal: answer bytes 0, nothing changed
 abbrev pub refusal_of : Device → ℕ → Taken
@@ -20,6 +24,11 @@ refusal_of d code = record { device = d; answer = record { code = code; first = 
 -- what a step by value gives
 abbrev pub taken_of : Stepped → Taken
 taken_of s = record { device = s.device; answer = record { code = s.code; first = s.first; second = s.second } }
+
+-- what the program's step on the device where it stands gives, in C's numbers
+abbrev pub answer_of : Result (ℕ × ℕ) Refusal → Answer
+answer_of (Ok bytes) = record { code = 0; first = bytes.0; second = bytes.1 }
+answer_of (Err why) = record { code = refusal_code_of why; first = 0; second = 0 }
 
 -- 3 and 4 of the record, or the step
 abbrev pub on_record_of : Device → Record → Taken

@@ -3,8 +3,7 @@
 use Rattle.std.specs.Prelude.{ℕ, ◌≡◌, refl, List, [], ◌∷◌, map}
 use Rattle.device.specs.Bus.{powered_of}
 use Rattle.device.specs.Ranges.{variant_of}
-use Rattle.bench_step.specs.declared.Taken.{Taken}
-use Rattle.bench_step.specs.BenchStep.{step_bytes_of, power_on_of}
+use Rattle.bench_step.specs.BenchStep.{Taken, step_bytes_of, power_on_of}
 use Rattle.record.specs.Opened.{record_opened}
 
 pub record Step : Type 0 where

@@ -11,7 +11,7 @@ use device::Device;
 pub extern "C" fn lm89_step(d: &mut Device, kind: u8, a: u8, b: u8, c: u8) -> Answer
     ensures { (d.new ≡ (step_bytes_of d.old kind a b c).device) × (result ≡ (step_bytes_of d.old kind a b c).answer) }
 {
-    bench_step::lm89_step(d, kind, a, b, c)
+    Answer::from(bench_step::step(d, kind, a, b, c))
 }
 
 // A device as after power-on, all zeros where the variant is none of 1 to 3.
@@ -19,5 +19,5 @@ pub extern "C" fn lm89_step(d: &mut Device, kind: u8, a: u8, b: u8, c: u8) -> An
 pub extern "C" fn lm89_power_on(variant: u8) -> Device
     ensures { result ≡ power_on_of variant }
 {
-    bench_step::lm89_power_on(variant)
+    bench_step::power_on(variant)
 }

@@ -9,7 +9,7 @@ use temperature::Reading;
 
 // All that only conversions and power-on move. Readings: remote in eighths; local in degrees, a byte. No padding but at the end.
 #[repr(C)]
-#[derive(Clone, Copy, PartialEq, Eq)]
+#[derive(Clone, Copy, Default, PartialEq, Eq)]
 pub struct Sensed {
     pub remote: i16,
     pub local: u8,

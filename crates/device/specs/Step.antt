@@ -1,11 +1,13 @@
 -- One event: `effect_of` is what it does to the device that it concerns, `step_of`, of a device alone, is ranges, kind, operands, then the effect.
 -- Assumes nothing.
-use Rattle.std.specs.Prelude.{ℕ, true, false, ◌&&◌, cond, eqb}
+use Rattle.std.specs.Prelude.{ℕ, true, false, ◌&&◌, cond, eqb, Result, Ok, Err}
 use Rattle.temperature.specs.Temperature.{open_reading}
 use Rattle.conversion.specs.Conversion.{reading_of}
 use Rattle.device.specs.declared.Device.{Device}
 use Rattle.device.specs.declared.Outcome.{Outcome}
-use Rattle.device.specs.declared.Stepped.{Stepped}
+use Rattle.device.specs.declared.Accepted.{Accepted}
+use Rattle.device.specs.declared.Refusal.{Refusal}
+use Rattle.device.specs.declared.Refusal.TheVariants.{OutOfRange, Kind, Operand}
 use Rattle.device.specs.declared.Event.{Event}
 use Rattle.device.specs.declared.Event.TheVariants.{Write, Read, Send, Receive, Convert, Open, PowerOn, ConvertSecond, OpenSecond}
 use Rattle.device.specs.Pins.{pins_of, first_of}
@@ -32,12 +34,30 @@ effect_of d (OpenSecond local) = sense_of d local open_reading true
 unfoldable pub answer_of : Outcome → ℕ
 answer_of o = first_of (pins_of o.device) o.acknowledged o.taken o.held
 
+-- a step in numbers: its code, its two answer bytes and the device after it
+pub record Stepped : Type 0 where
+  pub code : ℕ
+  pub first : ℕ
+  pub second : ℕ
+  pub device : Device
+
 -- a refusal: answer bytes 0, nothing changed
 abbrev pub refused_of : Device → ℕ → Stepped
 refused_of d code = record { code = code; first = 0; second = 0; device = d }
 
 abbrev pub stepped_of : Outcome → Stepped
 stepped_of o = record { code = 0; first = answer_of o; second = o.byte; device = o.device }
+
+-- the codes of the program's refusals
+abbrev pub refusal_code_of : Refusal → ℕ
+refusal_code_of OutOfRange = 8
+refusal_code_of Kind = 3
+refusal_code_of Operand = 4
+
+-- what the program's step gives, in numbers
+abbrev pub told_of : Device → Result Accepted Refusal → Stepped
+told_of d (Ok a) = record { code = 0; first = a.first; second = a.second; device = a.device }
+told_of d (Err why) = refused_of d (refusal_code_of why)
 
 -- 8 for a device out of its ranges or of no variant, then 3 for a conversion of a second device (request c), then 4 for an operand outside
 -- the table

@@ -1,13 +1,13 @@
 // P6, P9 to P11 and requests a and b: the bus, conversions and power-on.
 ghost use Rattle.std.specs.Prelude.{◌≡◌, Some};
-ghost use Rattle.registers.specs.Page.{write_position_of};
+ghost use Rattle.registers.specs.Bits.{has};
+ghost use Rattle.registers.specs.Page.{setting_of, write_position_of};
 ghost use Rattle.device.specs.Bus.{silent_of, answered_of, pointed_of, masked_of, stored_of, fired_of, put_of, status_read_of};
 ghost use Rattle.device.specs.Bus.{low_kept_of, low_let_go_of, low_read_of, after_read_of};
 ghost use Rattle.device.specs.Bus.{read_only_value_of, get_of, point_of, responds_of, respond_of, takes_of, converted_of, sense_of, powered_of};
 ghost use Rattle.device.specs.Asking.{asked_at, asked_of};
 
 use super::{Asked, Device, Event, Outcome, outputs};
-use conversion::Sensed;
 use registers::{Way, bits};
 use temperature::Reading;
 
@@ -29,53 +29,64 @@ fn answered(d: Device, byte: u8) -> Outcome
     ensures { result ≡ answered_of d byte }
 {
     Outcome {
-        device: d,
         acknowledged: true,
-        taken: false,
-        held: false,
         byte,
+        ..silent(d)
     }
+}
+
+// A bit of configuration is set.
+pub(crate) fn configured(settings: [u8; 14], bit: u8) -> bool
+    ensures { result ≡ has (setting_of settings 0x03) bit }
+{
+    settings[registers::CONFIGURATION] & bit != 0
 }
 
 fn pointed(d: Device, to: u8) -> Device
     ensures { result ≡ pointed_of d to }
 {
-    let mut n = d;
-    n.pointer = to;
-    n
+    Device { pointer: to, ..d }
 }
 
 // The ALERT mask bit becomes 1.
+#[tactic(auto, unfolding(crate::specs::Bus::masked_of))]
 fn masked(d: Device) -> Device
     ensures { result ≡ masked_of d }
 {
-    let mut n = d;
-    n.settings[registers::CONFIGURATION] = d.settings[registers::CONFIGURATION] | bits::ALERT_MASK;
-    n
+    let mut settings = d.settings;
+    settings[registers::CONFIGURATION] |= bits::ALERT_MASK;
+    Device { settings, ..d }
 }
 
 // The byte of the register that is written at `reg`, which stands at position `i`.
+#[tactic(auto, unfolding(crate::specs::Bus::stored_of))]
 fn stored(d: Device, reg: u8, i: usize, v: u8) -> Device
     requires { write_position_of reg ≡ Some i }
     ensures { result ≡ stored_of d reg v }
 {
-    let mut n = d;
-    n.settings[i] = v & registers::kept(reg);
-    n.pointer = reg;
-    n.pending = d.pending & (n.settings[registers::CONFIGURATION] & bits::STANDBY != 0);
-    n
+    let mut settings = d.settings;
+    settings[i] = v & registers::kept(reg);
+    Device {
+        pointer: reg,
+        pending: d.pending & configured(settings, bits::STANDBY),
+        settings,
+        ..d
+    }
 }
 
+#[tactic(auto, unfolding(crate::specs::Bus::fired_of))]
 fn fired(d: Device) -> Device
     ensures { result ≡ fired_of d }
 {
-    let mut n = d;
-    n.pointer = registers::ONE_SHOT;
-    n.pending = d.pending | (d.settings[registers::CONFIGURATION] & bits::STANDBY != 0);
-    n
+    Device {
+        pointer: registers::ONE_SHOT,
+        pending: d.pending | configured(d.settings, bits::STANDBY),
+        ..d
+    }
 }
 
 // Write byte.
+#[tactic(auto, unfolding(crate::specs::Bus::put_of))]
 pub(crate) fn put(d: Device, reg: u8, v: u8) -> Outcome
     ensures { result ≡ put_of d reg v }
 {
@@ -88,11 +99,11 @@ pub(crate) fn put(d: Device, reg: u8, v: u8) -> Outcome
     }
 }
 
+#[tactic(auto, unfolding(crate::specs::Bus::status_read_of))]
 fn status_read(d: Device) -> Device
     ensures { result ≡ status_read_of d }
 {
-    let mut n = d;
-    n.status = 0;
+    let n = Device { status: 0, ..d };
     if !outputs::comparator(d) & (d.status & bits::ALERTING != 0) {
         masked(n)
     } else {
@@ -101,14 +112,14 @@ fn status_read(d: Device) -> Device
 }
 
 // The low byte at a read of 10: the kept one, or that of the latest reading.
+#[tactic(auto, unfolding(crate::specs::Bus::low_read_of))]
 fn low_read(d: Device) -> u8
     ensures { result ≡ low_read_of d }
 {
-    let s = d.sensed;
     if d.lowkept {
         d.low
     } else {
-        temperature::low_byte(s.remote)
+        temperature::low_byte(d.sensed.remote)
     }
 }
 
@@ -116,31 +127,32 @@ fn low_read(d: Device) -> u8
 fn low_kept(d: Device) -> Device
     ensures { result ≡ low_kept_of d }
 {
-    let s = d.sensed;
-    let mut n = d;
-    n.low = temperature::low_byte(s.remote);
-    n.lowkept = true;
-    n
+    Device {
+        low: temperature::low_byte(d.sensed.remote),
+        lowkept: true,
+        ..d
+    }
 }
 
 // A read of 10 lets go.
 fn low_let_go(d: Device) -> Device
     ensures { result ≡ low_let_go_of d }
 {
-    let mut n = d;
-    n.low = 0;
-    n.lowkept = false;
-    n
+    Device {
+        low: 0,
+        lowkept: false,
+        ..d
+    }
 }
 
 // A register that no write sets: its byte, and what a read of it leaves.
+#[tactic(auto, unfolding(crate::specs::Bus::after_read_of, crate::specs::Bus::read_only_value_of))]
 fn read_only(d: Device, reg: u8) -> Outcome
     ensures { result ≡ answered_of (after_read_of d reg) (read_only_value_of d reg) }
 {
-    let s = d.sensed;
     match reg {
-        registers::LOCAL => answered(d, s.local),
-        registers::REMOTE => answered(low_kept(d), temperature::high_byte(s.remote)),
+        registers::LOCAL => answered(d, d.sensed.local),
+        registers::REMOTE => answered(low_kept(d), temperature::high_byte(d.sensed.remote)),
         registers::STATUS => answered(status_read(d), d.status),
         registers::REMOTE_PART => answered(low_let_go(d), low_read(d)),
         _ => answered(d, registers::read_only(d.variant, reg)),
@@ -148,6 +160,7 @@ fn read_only(d: Device, reg: u8) -> Outcome
 }
 
 // Read byte, and receive byte with the pointer.
+#[tactic(auto, unfolding(crate::specs::Bus::get_of, crate::specs::Bus::value_of, crate::specs::Bus::read_only_value_of, crate::specs::Bus::low_read_of))]
 pub(crate) fn get(d: Device, reg: u8) -> Outcome
     ensures { result ≡ get_of d reg }
 {
@@ -162,6 +175,7 @@ pub(crate) fn get(d: Device, reg: u8) -> Outcome
 }
 
 // Send byte.
+#[tactic(auto, unfolding(crate::specs::Bus::point_of))]
 pub(crate) fn point(d: Device, reg: u8) -> Outcome
     ensures { result ≡ point_of d reg }
 {
@@ -173,6 +187,7 @@ pub(crate) fn point(d: Device, reg: u8) -> Outcome
 }
 
 // P9 lets the device answer an alert response.
+#[tactic(auto, unfolding(crate::specs::Bus::responds_of))]
 pub fn responds(d: Device) -> bool
     ensures { result ≡ responds_of d }
 {
@@ -180,6 +195,7 @@ pub fn responds(d: Device) -> bool
 }
 
 // Alert response.
+#[tactic(auto, unfolding(crate::specs::Bus::respond_of))]
 pub(crate) fn respond(d: Device) -> Outcome
     ensures { result ≡ respond_of d }
 {
@@ -190,26 +206,28 @@ pub(crate) fn respond(d: Device) -> Outcome
     }
 }
 
+#[tactic(auto, unfolding(crate::specs::Bus::takes_of))]
 fn takes(d: Device) -> bool
     ensures { result ≡ takes_of d }
 {
-    !(d.settings[registers::CONFIGURATION] & bits::STANDBY != 0) | d.pending
+    !configured(d.settings, bits::STANDBY) | d.pending
 }
 
+#[tactic(auto, unfolding(crate::specs::Bus::converted_of))]
 fn converted(d: Device, local: u8, remote: i16, broken: bool) -> Device
     ensures { result ≡ converted_of d local remote broken }
 {
-    let s = d.settings;
-    let old = d.sensed;
-    let sensed = conversion::sense(s, old, local, remote, broken);
-    let mut n = d;
-    n.sensed = sensed;
-    n.status = d.status | sensed.live;
-    n.pending = false;
-    n
+    let sensed = conversion::sense(d.settings, d.sensed, local, remote, broken);
+    Device {
+        sensed,
+        status: d.status | sensed.live,
+        pending: false,
+        ..d
+    }
 }
 
 // A conversion, taken or not.
+#[tactic(auto, unfolding(crate::specs::Bus::sense_of))]
 pub(crate) fn sense(d: Device, local: u8, remote: Reading, broken: bool) -> Outcome
     ensures { result ≡ sense_of d local remote broken }
 {
@@ -217,35 +235,22 @@ pub(crate) fn sense(d: Device, local: u8, remote: Reading, broken: bool) -> Outc
         return silent(d);
     }
     Outcome {
-        device: converted(d, local, remote.eighths, broken),
-        acknowledged: false,
         taken: true,
         held: remote.held,
-        byte: 0,
+        ..silent(converted(d, local, remote.eighths, broken))
     }
 }
 
 // A device as after power-on.
+#[tactic(auto, unfolding(crate::specs::Bus::powered_of))]
 pub fn powered(variant: u8) -> Device
     ensures { result ≡ powered_of variant }
 {
-    let sensed = Sensed {
-        local: 0,
-        remote: 0,
-        live: 0,
-        faults: 0,
-        llatch: false,
-        rlatch: false,
-    };
     Device {
         variant,
         pointer: registers::LOCAL,
-        pending: false,
-        status: 0,
-        low: 0,
-        lowkept: false,
-        sensed,
         settings: registers::power_on(variant),
+        ..Device::default()
     }
 }
 
@@ -260,6 +265,7 @@ fn at(d: Device, address: u8, asked: Asked) -> Asked
 }
 
 // What the event asks of this device.
+#[tactic(auto, unfolding(crate::specs::Asking::asked_of))]
 pub(crate) fn asked(d: Device, e: Event) -> Asked
     ensures { result ≡ asked_of d e }
 {
@@ -273,8 +279,7 @@ pub(crate) fn asked(d: Device, e: Event) -> Asked
             at(d, address, Asked::Get(d.pointer))
         },
         Event::Convert(local, high, low) | Event::ConvertSecond(local, high, low) => {
-            let s = d.settings;
-            let remote = conversion::reading(s, high, low);
+            let remote = conversion::reading(d.settings, high, low);
             Asked::Sense(local, remote.eighths, remote.held, false)
         }
         Event::Open(local) | Event::OpenSecond(local) => {

@@ -1,7 +1,7 @@
 #![tactic(auto)]
 // The register machine: one device, one event, by value.
 ghost use Rattle.std.specs.Prelude.{◌≡◌};
-ghost use Rattle.device.specs.Step.{effect_of, answer_of, step_of, refused_of};
+ghost use Rattle.device.specs.Step.{effect_of, answer_of, refusal_code_of, told_of, step_of};
 ghost use Rattle.device.specs.Asking.{done_of};
 
 use conversion::Sensed;
@@ -13,7 +13,7 @@ pub mod ranges;
 
 // The fourteen settings stand in rising order of their write addresses; `low` is the byte kept at a read of 01, if one is.
 #[repr(C)]
-#[derive(Clone, Copy, PartialEq, Eq)]
+#[derive(Clone, Copy, Default, PartialEq, Eq)]
 pub struct Device {
     pub sensed: Sensed,
     pub variant: u8,
@@ -67,15 +67,36 @@ pub struct Pins {
     pub tcrit: bool,
 }
 
-// A step's code, its two answer bytes and the device after it.
-#[derive(Clone, Copy)]
-pub struct Stepped {
-    pub code: u8,
+// An event that is taken in: its two answer bytes, and the device after it.
+#[derive(Clone, Copy, PartialEq, Eq)]
+pub struct Accepted {
     pub first: u8,
     pub second: u8,
     pub device: Device,
 }
 
+// Why a step is refused, in the order of its tests.
+#[derive(Clone, Copy, Debug, PartialEq, Eq)]
+pub enum Refusal {
+    OutOfRange,
+    Kind,
+    Operand,
+}
+
+// A refusal's code.
+impl From<Refusal> for u8 {
+    ghost from_gives = { λ why code. code ≡ refusal_code_of why };
+
+    fn from(why: Refusal) -> u8 {
+        match why {
+            Refusal::OutOfRange => 8,
+            Refusal::Kind => 3,
+            Refusal::Operand => 4,
+        }
+    }
+}
+
+#[tactic(auto, unfolding(crate::specs::Asking::done_of))]
 fn done(d: Device, asked: Asked) -> Outcome
     ensures { result ≡ done_of d asked }
 {
@@ -103,6 +124,7 @@ pub fn effect(d: Device, e: Event) -> Outcome
 }
 
 // The first answer byte of an outcome.
+#[tactic(auto, unfolding(crate::specs::Step::answer_of))]
 pub fn answer(o: Outcome) -> u8
     ensures { result ≡ answer_of o }
 {
@@ -110,36 +132,24 @@ pub fn answer(o: Outcome) -> u8
     outputs::first(outputs::pins(d), o.acknowledged, o.taken, o.held)
 }
 
-fn refused(d: Device, code: u8) -> Stepped
-    ensures { result ≡ refused_of d code }
-{
-    Stepped {
-        code,
-        first: 0,
-        second: 0,
-        device: d,
-    }
-}
-
-// One event: 8 for a device out of its ranges, then 3 for a conversion of a second device, then 4 for an operand outside the table, else 0.
-pub fn step(d: Device, e: Event) -> Stepped
-    ensures { result ≡ step_of d e }
+// One event: refused for a device out of its ranges, then for a conversion of a second device, then for an operand outside the table.
+#[tactic(auto, unfolding(crate::specs::Step::step_of))]
+pub fn step(d: Device, e: Event) -> Result<Accepted, Refusal>
+    ensures { told_of d result ≡ step_of d e }
 {
     if !(ranges::variant(d.variant) & ranges::ranged(d)) {
-        return refused(d, 8);
+        return Err(Refusal::OutOfRange);
     }
     if ranges::second(e) {
-        return refused(d, 3);
+        return Err(Refusal::Kind);
     }
     if !ranges::operands(e) {
-        return refused(d, 4);
+        return Err(Refusal::Operand);
     }
     let o = effect(d, e);
-    let device = o.device;
-    Stepped {
-        code: 0,
+    Ok(Accepted {
         first: answer(o),
         second: o.byte,
-        device,
-    }
+        device: o.device,
+    })
 }

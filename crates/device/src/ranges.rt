@@ -3,12 +3,13 @@ ghost use Rattle.std.specs.Prelude.{◌≡◌, eqb};
 ghost use Rattle.std.specs.Int.Bits.{bit_and};
 ghost use Rattle.device.specs.Ranges.{all_true, variant_of, masks_of, ranged_of, operands_of, second_of};
 
-use super::{Device, Event};
+use super::{Device, Event, bus};
 use registers::bits;
 
 const HIGHEST_ADDRESS: u8 = 0x7F;
 
 // 1 to 3.
+#[tactic(auto, unfolding(crate::specs::Ranges::variant_of))]
 pub fn variant(v: u8) -> bool
     ensures { result ≡ variant_of v }
 {
@@ -30,6 +31,7 @@ fn keeps(byte: u8, kept: u8) -> bool
 }
 
 // No register byte has a bit that its register drops; the other eight keep all.
+#[tactic(auto, unfolding(crate::specs::Ranges::masks_of))]
 fn masks(s: [u8; 14]) -> bool
     ensures { result ≡ masks_of s }
 {
@@ -44,11 +46,11 @@ fn masks(s: [u8; 14]) -> bool
 }
 
 // Every range but the variant's.
+#[tactic(auto, unfolding(crate::specs::Ranges::ranged_of))]
 pub fn ranged(d: Device) -> bool
     ensures { result ≡ ranged_of d }
 {
     let s = d.sensed;
-    let settings = d.settings;
     all(&[
         s.faults <= 3,
         temperature::LOWEST <= s.remote,
@@ -56,8 +58,8 @@ pub fn ranged(d: Device) -> bool
         registers::known(d.pointer),
         d.status < bits::BUSY,
         s.live < bits::BUSY,
-        masks(settings),
-        !d.pending | (settings[registers::CONFIGURATION] & bits::STANDBY != 0),
+        masks(d.settings),
+        !d.pending | bus::configured(d.settings, bits::STANDBY),
         d.low % 32 == 0,
         d.lowkept | (d.low == 0),
     ])

@@ -19,7 +19,6 @@ use Rattle.conversion.specs.Conversion.{reading_of, local_limits_of, remote_limi
 use Rattle.device.specs.declared.Device.{Device}
 use Rattle.device.specs.declared.Pins.{Pins}
 use Rattle.device.specs.declared.Outcome.{Outcome}
-use Rattle.device.specs.declared.Stepped.{Stepped}
 use Rattle.device.specs.declared.Event.{Event}
 use Rattle.device.specs.declared.Event.TheVariants.{Write, Read, Send, Receive, Convert, Open, PowerOn, ConvertSecond, OpenSecond}
 use Rattle.device.specs.Pins.{comparator_of, watched_of, alert_of, tcrit_of, pins_of}
@@ -32,7 +31,7 @@ use Rattle.device_laws.specs.Conversions.{after_all}
 use Rattle.device_laws.specs.Alike.{blanked, blank_of, Alike, reads_them, AnswerAlike, shown_reply, shown_replies}
 use Rattle.device.specs.Run.{Reply, ok, after_of}
 use Rattle.device.specs.Ranges.{variant_of, ranged_of, operands_of, second_of}
-use Rattle.device.specs.Step.{effect_of, answer_of, step_of, stepped_of, refused_of}
+use Rattle.device.specs.Step.{Stepped, effect_of, answer_of, step_of, stepped_of, refused_of}
 use Rattle.device_laws.proofs.Changes.{setting_other, setting_mapped, changed_mapped, changed_same, changed_other}
 use Rattle.device_laws.proofs.Codes.{second_refused}
 use Rattle.device.proofs.Steps.{step_effect, ranged_after, variant_after}

@@ -19,13 +19,12 @@ use Rattle.conversion.specs.Conversion.{bit_of, reading_of}
 use Rattle.conversion.proofs.Bounds.{bit_bound}
 use Rattle.device.specs.declared.Device.{Device}
 use Rattle.device.specs.declared.Outcome.{Outcome}
-use Rattle.device.specs.declared.Stepped.{Stepped}
 use Rattle.device.specs.declared.Event.{Event}
 use Rattle.device.specs.declared.Event.TheVariants.{Write, Read, Send, Receive, Convert, Open, PowerOn, ConvertSecond, OpenSecond}
 use Rattle.device.specs.Pins.{pins_of, first_of}
 use Rattle.device.specs.Bus.{silent_of, put_of, get_of, point_of, responds_of, respond_of, takes_of, taking_of, sense_of, alert_response, at_of}
 use Rattle.device.specs.Ranges.{variant_of, ranged_of, operands_of, second_of}
-use Rattle.device.specs.Step.{effect_of, answer_of, refused_of, stepped_of, step_of}
+use Rattle.device.specs.Step.{Stepped, effect_of, answer_of, refused_of, stepped_of, step_of}
 use Rattle.device.specs.Run.{Reply, replies_of, after_of}
 use Rattle.device_laws.specs.Moves.{held_by}
 use Rattle.device_laws.specs.Held.{cleared, step_without, reply_without}

@@ -15,11 +15,10 @@ use Rattle.temperature.specs.Temperature.{high_byte_of, low_byte_of}
 use Rattle.temperature.proofs.Bytes.{eighths_back}
 use Rattle.registers.specs.Page.{r_set, among}
 use Rattle.device.specs.declared.Device.{Device}
-use Rattle.device.specs.declared.Stepped.{Stepped}
 use Rattle.device.specs.declared.Event.{Event}
 use Rattle.device.specs.declared.Event.TheVariants.{Write, Read, Send, Receive, Convert, Open, PowerOn, ConvertSecond, OpenSecond}
 use Rattle.device.specs.Ranges.{variant_of, ranged_of, operands_of, second_of}
-use Rattle.device.specs.Step.{effect_of, stepped_of, step_of}
+use Rattle.device.specs.Step.{Stepped, effect_of, stepped_of, step_of}
 use Rattle.device.specs.Run.{after_of}
 use Rattle.device.proofs.InRange.{named, kept}
 use Rattle.device.proofs.Untouched.{same_variant}

@@ -10,13 +10,12 @@ use Rattle.registers.specs.Page.{readable_of, writable_of, known_of, setting_of,
 use Rattle.conversion.specs.Conversion.{bit_of}
 use Rattle.device.specs.declared.Device.{Device}
 use Rattle.device.specs.declared.Pins.{Pins}
-use Rattle.device.specs.declared.Stepped.{Stepped}
 use Rattle.device.specs.declared.Event.{Event}
 use Rattle.device.specs.declared.Event.TheVariants.{Write, Read, Send, Receive, Convert, Open, PowerOn, ConvertSecond, OpenSecond}
 use Rattle.device.specs.Pins.{pins_of}
 use Rattle.device.specs.Bus.{pointed_of, masked_of, written_of, value_of, after_read_of, alert_response, responds_of, takes_of, converted_of, powered_of}
 use Rattle.device.specs.Ranges.{variant_of, ranged_of, operands_of, second_of}
-use Rattle.device.specs.Step.{refused_of}
+use Rattle.device.specs.Step.{Stepped, refused_of}
 use Rattle.device.specs.Run.{Reply}
 
 -- ---- P2: the remote reading

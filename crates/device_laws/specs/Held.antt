@@ -6,10 +6,9 @@ use Rattle.std.specs.Int.Signed.{lt_z}
 use Rattle.std.specs.Int.Bits.{bit_and}
 use Rattle.registers.specs.Bits.{has}
 use Rattle.device.specs.declared.Outcome.{Outcome}
-use Rattle.device.specs.declared.Stepped.{Stepped}
 use Rattle.device.specs.declared.Event.{Event}
 use Rattle.device.specs.declared.Event.TheVariants.{Write, Read, Send, Receive, Convert, Open, PowerOn, ConvertSecond, OpenSecond}
-use Rattle.device.specs.Step.{answer_of}
+use Rattle.device.specs.Step.{Stepped, answer_of}
 use Rattle.device.specs.Run.{Reply}
 use Rattle.device_laws.specs.Moves.{off_scale}
 

@@ -3,10 +3,9 @@
 use Rattle.std.specs.Prelude.{ℕ, ◌≡◌, Bool, true, false, ◌||◌, ◌&&◌, List, [], ◌∷◌, ℤ, eqb}
 use Rattle.temperature.specs.Temperature.{eighths_of, high_byte_of, low_byte_of}
 use Rattle.device.specs.declared.Device.{Device}
-use Rattle.device.specs.declared.Stepped.{Stepped}
 use Rattle.device.specs.declared.Event.{Event}
 use Rattle.device.specs.declared.Event.TheVariants.{Write, Read, Send, Receive, Convert, Open, PowerOn, ConvertSecond, OpenSecond}
-use Rattle.device.specs.Step.{effect_of, step_of}
+use Rattle.device.specs.Step.{Stepped, effect_of, step_of}
 use Rattle.device_laws.specs.Moves.{own_of}
 
 -- for r in R, an acknowledged read of r: a read byte at the device's own address, or a receive there with the pointer at r

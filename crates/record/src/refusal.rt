@@ -1,5 +1,6 @@
 // Why a record is refused, and why nothing is written, with the codes of both.
 ghost use Rattle.std.specs.Prelude.{◌≡◌, Err};
+ghost use Rattle.device.specs.Step.{refusal_code_of};
 ghost use Rattle.record.specs.Record.{code_of};
 ghost use Rattle.record.specs.Writer.{of_record, write_code_of};
 
@@ -17,6 +18,19 @@ impl From<Refusal> for u8 {
         match why {
             Refusal::Kind => 3,
             Refusal::Operand => 4,
+        }
+    }
+}
+
+// Bytes that are no event's are not stepped.
+impl From<Refusal> for device::Refusal {
+    ghost from_gives = { λ why refusal. refusal_code_of refusal ≡ code_of (Err why) };
+
+    #[tactic(auto, unfolding(crate::specs::Record::code_of))]
+    fn from(why: Refusal) -> device::Refusal {
+        match why {
+            Refusal::Kind => device::Refusal::Kind,
+            Refusal::Operand => device::Refusal::Operand,
         }
     }
 }

@@ -18,12 +18,11 @@ use Rattle.conversion.specs.declared.Sensed.{Sensed}
 use Rattle.conversion.specs.Conversion.{reading_of, any_of, count_of, remote_out_of, sensed_of}
 use Rattle.conversion.specs.Channels.{Channel, local_channel, remote_channel, latch_at}
 use Rattle.device.specs.declared.Device.{Device}
-use Rattle.device.specs.declared.Stepped.{Stepped}
 use Rattle.device.specs.declared.Event.{Event}
 use Rattle.device.specs.declared.Event.TheVariants.{Write, Read, Send, Receive, Convert, Open, PowerOn, ConvertSecond, OpenSecond}
 use Rattle.device.specs.Bus.{standby_of, takes_of, converted_of, sense_of}
 use Rattle.device.specs.Ranges.{variant_of, ranged_of, operands_of, second_of}
-use Rattle.device.specs.Step.{effect_of, step_of}
+use Rattle.device.specs.Step.{Stepped, effect_of, step_of}
 use Rattle.device.specs.Run.{after_of}
 use Rattle.device.proofs.InRange.{named, of_named}
 use Rattle.device.proofs.Steps.{step_effect, ranged_after, variant_after}

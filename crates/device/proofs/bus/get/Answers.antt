@@ -5,10 +5,6 @@ use Rattle.device.specs.Bus.{low_read_of, read_only_value_of, value_of, get_of}
 use Rattle.device.proofs.AfterRead.{settable_read}
 use Rattle.device.proofs.bus.get.Goals as goal
 
-pub returns-then-not-allowed : goal.returns-then-not-allowed
-unfolding get_of
-returns-then-not-allowed c = rw (c.silent.ensures, ← c.allowed.ensures, c.if-not-allowed.true)
-
 pub bounds-d-i : goal.bounds-d-i
 bounds-d-i c = read_below _ _ (sym c.position.ensures ∙ c.in-Some.is)
 

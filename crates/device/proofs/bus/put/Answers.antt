@@ -3,13 +3,6 @@ use Rattle.device.specs.Bus.{put_of}
 use mathlib.Core.Path.{sym, ◌∙◌}
 use Rattle.device.proofs.bus.put.Goals as goal
 
-pub returns-then-not-allowed : goal.returns-then-not-allowed
-unfolding put_of
-returns-then-not-allowed c = rw (c.silent.ensures, ← c.allowed.ensures, c.if-not-allowed.true)
-
-pub stored-requires : goal.stored-requires
-stored-requires c = sym c.position.ensures ∙ c.in-Some.is
-
 pub returns-in-Some : goal.returns-in-Some
 unfolding put_of
 returns-in-Some c =

@@ -1,0 +1,5 @@
+use Rattle.registers.proofs.Settings.{configuration}
+use Rattle.device.proofs.bus.configured.Goals as goal
+
+pub returns : goal.returns
+returns c = rw (configuration c.args.settings)
