@@ -16,9 +16,10 @@ ROOT = pathlib.Path(__file__).resolve().parent.parent
 ACCOUNT = ("history/specs/Account.antt", "history/specs/Verdict.antt")
 # types of the program by CRATE::NAME, definitions by FILE: NAME
 FORBIDDEN = (
-    "conversion::Sensed", "device::Device", "device::Outcome", "device::Stepped", "device::Pins", "pair::Bus", "capture::Reader",
+    "conversion::Sensed", "device::Device", "device::Outcome", "device::Accepted", "device::Pins", "pair::Bus", "capture::Reader",
     "conversion/specs/Conversion.antt: live_of", "conversion/specs/Conversion.antt: latch_of", "conversion/specs/Conversion.antt: sensed_of",
     "device/specs/Pins.antt: alert_of", "device/specs/Pins.antt: tcrit_of", "device/specs/Bus.antt: status_read_of", "device/specs/Step.antt: effect_of",
+    "device/specs/Step.antt: Stepped",
     "pair/specs/Bus.antt: bus_effect_of", "capture/specs/Whole.antt: whole_of", "capture/specs/Reader.antt: turn_of",
 )
 # the language's libraries: no crate of this repository is one of these, nor has the name std
