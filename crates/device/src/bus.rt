@@ -39,7 +39,7 @@ fn answered(d: Device, byte: u8) -> Outcome
 pub(crate) fn configured(settings: [u8; 14], bit: u8) -> bool
     ensures { result ≡ has (setting_of settings 0x03) bit }
 {
-    settings[registers::CONFIGURATION] & bit != 0
+    bits::has(settings[registers::CONFIGURATION], bit)
 }
 
 fn pointed(d: Device, to: u8) -> Device
@@ -104,7 +104,7 @@ fn status_read(d: Device) -> Device
     ensures { result ≡ status_read_of d }
 {
     let n = Device { status: 0, ..d };
-    if !outputs::comparator(d) & (d.status & bits::ALERTING != 0) {
+    if !outputs::comparator(d) & bits::has(d.status, bits::ALERTING) {
         masked(n)
     } else {
         n

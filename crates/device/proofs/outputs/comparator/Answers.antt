@@ -4,4 +4,4 @@ use Rattle.device.proofs.outputs.comparator.Goals as goal
 
 pub returns : goal.returns
 unfolding comparator_of
-returns c = rw (filter_alert c.args.d.settings)
+returns c = rw (c.has.ensures, filter_alert c.args.d.settings)
