@@ -7,7 +7,7 @@ use mathlib.Core.Bool.{true, false, not, ◌||◌}
 use native.Mathlib.Omega.{arith}
 use native.Mathlib.Numerals.{add-one}
 use native.Mathlib.Nat.{add-zero, sub-zero, zero-add, sub-add-eq}
-use lib.ListN.{length, get_or, set, take, drop, take-append-drop, length-append, length-drop, drop_of_length-le}
+use lib.ListN.{length, get_or, take, drop, take-append-drop, length-append, length-drop, drop_of_length-le}
 use lib.Seq.{drop-cons, length-take-le, drop-drop, drop_at, take-append-add}
 use lib.Dec.{eqb}
 use Rattle.laws.proofs.Choices.{by_test}
@@ -149,9 +149,3 @@ called s input entry h m = simp h m
 pub outside : (s : Reader) (input entry : List ℕ) → ranges_of s ≡ false
     → Meets (call_of s input (length entry)) (record { code = 8; consumed = 0; written = 0; reader = s }) entry entry
 outside s input entry h = simp h (record { code = refl; consumed = refl; written = refl; reader = refl; buffer = refl })
-
--- two stores
-pub two : (l : List ℕ) (x y : ℕ) → 2 ≤ length l → set (set l 0 x) 1 y ≡ x ∷ y ∷ drop 2 l
-two [] x y h = absurd (omega arith)
-two (a ∷ []) x y h = absurd (omega arith)
-two (a ∷ b ∷ l) x y h = refl

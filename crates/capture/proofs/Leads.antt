@@ -1,6 +1,6 @@
 -- The loop of `lead`, as mathematics: bytes that complete no record.
 -- Assumes nothing.
-use Prim.Native.Nat.{ℕ, ◌+◌, ◌^◌, ◌≤◌, ◌<◌}
+use Prim.Native.Nat.{ℕ, ◌+◌, ◌≤◌, ◌<◌}
 use mathlib.Core.Path.{◌≡◌, refl, sym, subst}
 use mathlib.Core.List.{List}
 use mathlib.Core.Bool.{Bool, true, false, not, ◌||◌}
@@ -21,10 +21,9 @@ pub record Leading (input : List ℕ) (s : Reader) (from : ℕ) (n : Reader) (at
   pub onward : (answers : List ℕ) (written : ℕ) → Onward input answers s from written answers n at written
   pub forward : from ≤ at
   pub within : at ≤ length input
-  pub fits : length input < 2 ^ 64
 
-pub lead_start : (input : List ℕ) (s : Reader) (from : ℕ) → ranges_of s ≡ true → from ≤ length input → length input < 2 ^ 64 → Leading input s from s from
-lead_start input s from r w f = record { ok = r; onward = λ answers written o entry g. g; forward = omega arith; within = w; fits = f }
+pub lead_start : (input : List ℕ) (s : Reader) (from : ℕ) → ranges_of s ≡ true → from ≤ length input → Leading input s from s from
+lead_start input s from r w = record { ok = r; onward = λ answers written o entry g. g; forward = omega arith; within = w }
 
 module _ {input : List ℕ} {s : Reader} {from : ℕ} {n : Reader} {at : ℕ} (l : Leading input s from n at) where
   pub lead_end : length input ≤ at → Led input s from (record { reader = n; at = at })
@@ -43,7 +42,6 @@ module _ {input : List ℕ} {s : Reader} {from : ℕ} {n : Reader} {at : ℕ} (l
       onward = λ answers written o entry g. silent (l.onward answers written o entry g) h (sym turn) kept z refl;
       forward = omega (arith, l.forward);
       within = omega arith;
-      fits = l.fits;
     }
 
     pub lead_stopped : (m.held ≡ 0 → ⊥) → Led input s from (record { reader = m; at = at })

@@ -26,6 +26,7 @@ use Rattle.pair.specs.Bus.{picked_of, placed_of, Answered, answers_of, header_le
 use Rattle.pair.specs.Hand.{named_at, hand_of, leaves_of, settled_of}
 use Rattle.pair.proofs.AtHand.{laid_of, Laid, second_of_two, placed_picked, hand_first, hand_next}
 use Rattle.capture.specs.declared.Reader.{Reader}
+use Rattle.capture.specs.Refusal.{refusal_code_of, of_record}
 use Rattle.capture.specs.Reader.{with_carried, hold_of, between_of, header_length_of, header_done, ranges_of}
 use Rattle.capture.specs.Reader.{quiet_of, answered_of, judged_of, turn_of, feed_of, Out, join_of, report_of, Meets}
 use Rattle.capture.specs.Loops.{Going, Onward, waits_of, carrying_of, upto_of, Ready, Took}
@@ -88,6 +89,12 @@ module _ (s : Reader) (w : AtFourth s) (c : ℕ) where
 
   takes : (e : Event) → record_at ≡ Ok e → turn_of s c ≡ answered_of s (answers_of s.bus e)
   takes e q = judged ∙ ap (judged_of s) q
+
+-- a record's refusal has one code
+pub same_code : (why : Refusal) → refusal_code_of (of_record why) ≡ code_of (Err why)
+unfolding code_of
+same_code Kind = refl
+same_code Operand = refl
 
 lasting : (why : Refusal) → code_of (Err why) ≡ 0 → ⊥
 unfolding code_of

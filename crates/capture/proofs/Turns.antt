@@ -7,12 +7,17 @@ use native.Mathlib.Omega.{arith}
 use lib.Dec.{ltb, eqb}
 use lib.ListN.{get_or}
 use borrow.Author.Tests.{eq-eqb, ne_eqb, lt-ltb, le-ltb}
-use Rattle.laws.proofs.Choices.{cond_ind}
+use Rattle.std.specs.Prelude.{Result, Ok, Err}
+use Rattle.laws.proofs.Choices.{cond_ind, by_test}
 use Rattle.device.specs.Ranges.{variant_of}
 use Rattle.record.specs.Record.{decode_of}
+use Rattle.pair.specs.declared.Bus.{Bus}
 use Rattle.pair.specs.Bus.{count_place}
 use Rattle.capture.specs.declared.Reader.{Reader}
-use Rattle.capture.specs.Reader.{header_length_of, hold_of, quiet_of, opened_of, one_address, variant_taken_of, variant_byte_of, counted_of}
+use Rattle.capture.specs.declared.refusal.Refusal.{Refusal}
+use Rattle.capture.specs.Refusal.{refusal_code_of}
+use Rattle.capture.specs.Loops.{opened_or, variant_or}
+use Rattle.capture.specs.Reader.{header_length_of, hold_of, with_bus, head_taken_of, second_variant, quiet_of, opened_of, one_address, variant_taken_of, variant_byte_of, counted_of}
 use Rattle.capture.specs.Reader.{carry_of, judged_of, head_of, record_of, turn_of}
 
 module _ (s : Reader) (b : ℕ) where
@@ -22,6 +27,11 @@ module _ (s : Reader) (b : ℕ) where
   held_turn n = simp (ne_eqb s.held 0 n)
 
   -- ---- a byte of the header
+
+  -- with its bus, or the code of why there is none
+  abbrev pub on_bus : Result Bus Refusal → Reader
+  on_bus (Ok bus) = with_bus (head_taken_of s) bus
+  on_bus (Err why) = hold_of s (refusal_code_of why)
 
   -- the device count
   module _ (z : s.head ≡ 0) where
@@ -33,11 +43,22 @@ module _ (s : Reader) (b : ℕ) where
     unfolding head_of
     other_count_head e = simp (eq-eqb s.head 0 z, e)
 
+    pub opened_told : {r : Result Bus Refusal} → r ≡ opened_or s.bus b → head_of s b ≡ on_bus r
+    opened_told e = by_test (eqb b 1 || eqb b 2) (λ t. opened_head t ∙ rw (e, t)) (λ f. other_count_head f ∙ rw (e, f))
+
   module _ (n : s.head ≡ 0 → ⊥) where
     -- a variant
     pub variant_head : s.head < count_place s.bus → head_of s b ≡ variant_byte_of s b
     unfolding head_of
     variant_head l = simp (ne_eqb s.head 0 n, lt-ltb s.head (count_place s.bus) l)
+
+    pub variant_told : s.head < count_place s.bus → {r : Result Bus Refusal} → r ≡ variant_or s.bus (second_variant s) b → head_of s b ≡ on_bus r
+    variant_told l e =
+        variant_head l
+        ∙ rw e
+        (by_test (variant_of b)
+        (λ v. by_test (one_address s b) (λ o. rw (v, o)) (λ o. rw (v, o)))
+        (λ v. rw v))
 
     -- a byte of the record count
     pub counted_head : count_place s.bus ≤ s.head → head_of s b ≡ counted_of s b

@@ -1,3 +1,4 @@
+pub mod Refusal
 pub mod Reader
 pub mod Loops
 pub mod Whole

@@ -1,11 +1,18 @@
 -- What the reader's loops promise each other: what is known between two bytes of a call. `feed` promises no more than `Meets`.
 -- Assumes nothing.
-use Rattle.std.specs.Prelude.{ℕ, ◌+◌, ◌-◌, ◌/◌, min, ◌≤◌, ◌<◌, ◌≡◌, List, [], ◌∷◌, Bool, true, ◌&&◌, cond, length, get_or, take, drop, eqb}
+use Rattle.std.specs.Prelude.{ℕ, ◌+◌, ◌-◌, ◌/◌, min, ◌≤◌, ◌<◌, ◌≡◌, List, [], ◌∷◌, Bool, true, ◌&&◌, ◌||◌, cond, Result, Ok, Err, length, get_or, take, drop, eqb}
 use Rattle.pair.specs.declared.Bus.{Bus}
 use Rattle.capture.specs.declared.Reader.{Reader}
 use Rattle.capture.specs.declared.Ahead.{Ahead}
 use Rattle.capture.specs.declared.Fed.{Fed}
-use Rattle.capture.specs.Reader.{with_done, with_carried, with_bus, ranges_of, Out, join_of, feed_of, Meets}
+use Rattle.device.specs.Bus.{powered_of}
+use Rattle.device.specs.Ranges.{variant_of}
+use Rattle.registers.specs.Page.{address_of}
+use Rattle.pair.specs.Bus.{placed_of, counted_bus, first_address}
+use Rattle.capture.specs.declared.refusal.Refusal.{Refusal}
+use Rattle.capture.specs.declared.refusal.Refusal.TheVariants.{DeviceCount, Variant, OneAddress}
+use Rattle.capture.specs.Refusal.{refusal_code_of}
+use Rattle.capture.specs.Reader.{with_done, with_carried, with_bus, hold_of, ranges_of, Out, join_of, feed_of, Meets}
 
 -- the call's outcome o is what has been done, and then that of the rest
 pub record Going (o : Out) (input entry answers : List ℕ) (s : Reader) (at written : ℕ) : Type 0 where
@@ -24,6 +31,20 @@ Onward input before s at written after s' at' written' =
 -- three bytes of a record are carried: the next one completes it
 unfoldable pub waits_of : Reader → Bool
 waits_of s = eqb s.held 0 && eqb s.carried 3
+
+-- the next state, or the state that holds the code of why there is none
+abbrev pub told_of : Reader → Result Reader Refusal → Reader
+told_of s (Ok next) = next
+told_of s (Err why) = hold_of s (refusal_code_of why)
+
+-- the bus at its device count, or why not
+abbrev pub opened_or : Bus → ℕ → Result Bus Refusal
+opened_or p b = cond (eqb b 1 || eqb b 2) (Ok (counted_bus p b)) (Err DeviceCount)
+
+-- the bus at a variant of one of its devices, or why not
+abbrev pub variant_or : Bus → Bool → ℕ → Result Bus Refusal
+variant_or p second b =
+    cond (variant_of b) (cond (second && eqb (address_of b) (first_address p)) (Err OneAddress) (Ok (placed_of p second (powered_of b)))) (Err Variant)
 
 -- so many records done with this bus, and a record's first three bytes carried
 abbrev pub carrying_of : Reader → ℕ → Bus → ℕ → ℕ → ℕ → Reader

@@ -10,7 +10,7 @@ use pair::Bus;
 pub(crate) fn count_place(bus: Bus) -> u16
     ensures { result ≡ count_place bus }
 {
-    1 + (bus.devices as u16)
+    1 + u16::from(bus.devices)
 }
 
 fn length(bus: Bus) -> u16
@@ -22,7 +22,7 @@ fn length(bus: Bus) -> u16
 pub(crate) fn taken(s: Reader) -> u16
     ensures { result ≡ s.head }
 {
-    s.head as u16
+    u16::from(s.head)
 }
 
 // Bytes of it are still to come.

@@ -7,10 +7,14 @@ use pair::Bus;
 
 mod header;
 pub mod ranges;
+mod refusal;
 mod running;
 mod taking;
 
+pub use refusal::Refusal;
+
 // Header bytes taken, record count so far, records done, record bytes carried, a lasting code or 0, and the bus.
+// Kept: C has this struct (lm89_reader), with a number for the code.
 #[repr(C)]
 #[derive(Clone, Copy)]
 pub struct Reader {
@@ -31,6 +35,7 @@ pub struct Ahead {
 }
 
 // What a call reports.
+// Kept: C has this struct (lm89_fed), with a number for the code.
 #[repr(C)]
 #[derive(Clone, Copy)]
 pub struct Fed {
@@ -76,7 +81,7 @@ pub fn feed(reader: Reader, input: &[u8], answers: &mut [u8]) -> Fed
     ensures { FedWith reader input.now result answers.old answers.new }
 {
     if !ranges::in_range(reader) {
-        return report(8, 0, 0, reader);
+        return report(u8::from(Refusal::Range), 0, 0, reader);
     }
     let mut s = reader;
     let mut at = 0;
@@ -102,6 +107,7 @@ pub fn feed(reader: Reader, input: &[u8], answers: &mut [u8]) -> Fed
 }
 
 // The finishing code of a state in its ranges: the held one, 6 before the counted end, else 0.
+// Kept as a number: end_of says so of every state, and a state out of its ranges holds numbers that no refusal has.
 pub fn ending(reader: Reader) -> u8
     ensures { result ≡ end_of reader }
 {
@@ -109,9 +115,10 @@ pub fn ending(reader: Reader) -> u8
         return reader.held;
     }
     if header::complete(reader) & (reader.done == reader.count) {
-        return 0;
+        0
+    } else {
+        u8::from(Refusal::CutShort)
     }
-    6
 }
 
 // Asked to finish: 8 for a state out of its ranges, else its finishing code.
@@ -121,6 +128,6 @@ pub fn finish(reader: Reader) -> u8
     if ranges::in_range(reader) {
         ending(reader)
     } else {
-        8
+        u8::from(Refusal::Range)
     }
 }

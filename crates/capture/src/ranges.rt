@@ -8,34 +8,21 @@ use super::{Reader, header};
 fn limit(head: u16, before: u16) -> u64
     ensures { result ≡ limit_of (head - before) }
 {
-    if head <= before {
-        return 1;
-    }
-    match head - before {
-        1 => 0x100,
-        2 => 0x10000,
-        3 => 0x1000000,
-        _ => 0x100000000,
-    }
+    256u64.pow(u32::from(head.saturating_sub(before).min(4)))
 }
 
 fn place(s: Reader) -> bool
     ensures { result ≡ place_of s }
 {
-    let q = s.bytes;
-    let first = q[0];
-    let second = q[1];
-    let third = q[2];
-    let count = s.count as u64;
     let complete = header::complete(s);
     device::ranges::all(&[
         header::within(s),
         s.carried <= 3,
         (s.carried == 0) | (complete & (s.done < s.count)),
-        (0 < s.carried) | (first == 0),
-        (1 < s.carried) | (second == 0),
-        (2 < s.carried) | (third == 0),
-        count < limit(header::taken(s), header::count_place(s.bus)),
+        (0 < s.carried) | (s.bytes[0] == 0),
+        (1 < s.carried) | (s.bytes[1] == 0),
+        (2 < s.carried) | (s.bytes[2] == 0),
+        u64::from(s.count) < limit(header::taken(s), header::count_place(s.bus)),
         s.done <= s.count,
         complete | (s.done == 0),
     ])

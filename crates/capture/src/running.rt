@@ -1,11 +1,12 @@
 // Whole records, one after another.
-ghost use Rattle.std.specs.Prelude.{◌≡◌, true, ◌∷◌, ◌-◌, min, ◌≤◌, ◌<◌, length, drop};
+ghost use Rattle.std.specs.Prelude.{◌≡◌, true, ◌∷◌, ◌-◌, min, ◌≤◌, length, drop};
 ghost use Rattle.pair.specs.Bus.{placed_of};
 ghost use Rattle.pair.specs.Hand.{settled_of};
 ghost use Rattle.capture.specs.Reader.{ranges_of, hold_of, between_of, report_of};
+ghost use Rattle.capture.specs.Refusal.{refusal_code_of};
 ghost use Rattle.capture.specs.Loops.{waits_of, carrying_of, upto_of, Ready, Took, Full};
 
-use super::{Fed, Reader, report, taking};
+use super::{Fed, Reader, Refusal, report, taking};
 use device::Device;
 use pair::hand;
 use pair::hand::Hand;
@@ -23,31 +24,33 @@ fn put_pair(room: &mut [u8], first: u8, second: u8)
 fn carrying(s: Reader, done: u32, h: Hand, device: Device, kind: u8, a: u8, b: u8) -> Reader
     ensures { result ≡ carrying_of s done (placed_of s.bus h.second device) kind a b }
 {
-    let mut n = s;
-    n.done = done;
-    n.bus = pair::placed(s.bus, h.second, device);
-    n.carried = 3;
-    n.bytes = [kind, a, b];
-    n
+    Reader {
+        done,
+        carried: 3,
+        bytes: [kind, a, b],
+        bus: pair::placed(s.bus, h.second, device),
+        ..s
+    }
 }
 
 // The same with none carried, and the other restarted where both are.
 fn between(s: Reader, done: u32, h: Hand, device: Device) -> Reader
     ensures { result ≡ between_of s done (placed_of (settled_of s.bus h.restart) h.second device) }
 {
-    let mut n = s;
-    n.done = done;
-    n.bus = pair::placed(hand::settled(s.bus, h.restart), h.second, device);
-    n.carried = 0;
-    n.bytes = [0; 3];
-    n
+    Reader {
+        done,
+        carried: 0,
+        bytes: [0; 3],
+        bus: pair::placed(hand::settled(s.bus, h.restart), h.second, device),
+        ..s
+    }
 }
 
 // A refused record: the state holds its code.
-fn refused(s: Reader, code: u8, at: usize, written: usize) -> Fed
-    ensures { result ≡ report_of code at written (hold_of s code) }
+fn refused(s: Reader, why: Refusal, at: usize, written: usize) -> Fed
+    ensures { result ≡ report_of (refusal_code_of why) at written (hold_of s (refusal_code_of why)) }
 {
-    report(code, at, written, taking::hold(s, code))
+    report(u8::from(why), at, written, taking::hold(s, why))
 }
 
 // A record's fourth byte with no room for its answers: 3 or 4, else 7.
@@ -56,36 +59,24 @@ pub(crate) fn no_room(s: Reader, c: u8, at: usize, written: usize) -> Fed
     requires waiting { waits_of s ≡ true }
     ensures { Full s c at written result }
 {
-    let q = s.bytes;
-    let bus = s.bus;
-    let r = record::decode(bus.devices, q[0], q[1], q[2], c);
-    match r {
-        Ok(_) => report(7, at, written, s),
-        Err(why) => refused(s, u8::from(why), at, written),
+    let [kind, a, b] = s.bytes;
+    match record::decode(s.bus.devices, kind, a, b, c) {
+        Ok(_) => report(u8::from(Refusal::Room), at, written, s),
+        Err(why) => refused(s, Refusal::from(why), at, written),
     }
-}
-
-fn lesser(a: usize, b: usize) -> usize
-    ensures { result ≡ min a b }
-{
-    if a < b {
-        return a;
-    }
-    b
 }
 
 // How many records can be taken from a fourth byte on: one that restarts both devices, else the least of those counted, whole in the bytes, and with
 // room.
 fn upto(restart: bool, s: Reader, bytes: usize, room: usize) -> usize
     requires within { s.done ≤ s.count }
-    requires some { 0 < bytes }
     ensures { result ≡ upto_of restart (s.count - s.done) bytes room }
 {
     if restart {
-        return 1;
+        1
+    } else {
+        ((s.count - s.done) as usize).min(bytes.div_ceil(4).min(room / 2))
     }
-    let counted = s.count - s.done;
-    lesser(counted as usize, lesser((bytes - 1) / 4 + 1, room / 2))
 }
 
 // From a record whose fourth byte is next, for as long as whole records follow that name no other device: a code that ends the call, or 0.
@@ -93,9 +84,7 @@ pub(crate) fn run(s: Reader, input: &[u8], from: usize, answers: &mut [u8], star
     requires { Ready s input.now from answers.old start }
     ensures { Took input.now answers.old s from start answers.new result }
 {
-    let mut kind = s.bytes[0];
-    let mut a = s.bytes[1];
-    let mut b = s.bytes[2];
+    let [mut kind, mut a, mut b] = s.bytes;
     let h = hand::taken(s.bus, kind, a);
     let mut device = pair::picked(s.bus, h.second);
     let mut done = s.done;
@@ -107,23 +96,23 @@ pub(crate) fn run(s: Reader, input: &[u8], from: usize, answers: &mut [u8], star
             Ok(e) => e,
             Err(why) => {
                 let n = carrying(s, done, h, device, kind, a, b);
-                return refused(n, u8::from(why), at, written);
+                return refused(n, Refusal::from(why), at, written);
             }
         };
         let o = device::effect(device, e);
         put_pair(&mut answers[written..], device::answer(o) | h.lines, o.byte);
         device = o.device;
-        done = done + 1;
-        written = written + 2;
-        at = at + 1;
-        left = left - 1;
+        done += 1;
+        written += 2;
+        at += 1;
+        left -= 1;
         if left == 0 {
             return report(0, at, written, between(s, done, h, device));
         }
         kind = input[at];
         a = input[at + 1];
         b = input[at + 2];
-        at = at + 3;
+        at += 3;
         if hand::leaves(h, kind, a) {
             return report(0, at, written, carrying(s, done, h, device, kind, a, b));
         }

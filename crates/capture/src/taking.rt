@@ -1,92 +1,74 @@
 // What one byte does to the reader's state.
 ghost use Rattle.std.specs.Prelude.{◌≡◌, true, false, ◌<◌, ◌≤◌, length, set};
-ghost use Rattle.capture.specs.Reader.{hold_of, quiet_of, opened_of, variant_taken_of, one_address, variant_byte_of, head_of, carry_of, turn_of, ranges_of};
-ghost use Rattle.capture.specs.Loops.{waits_of, Led};
+ghost use Rattle.capture.specs.Refusal.{refusal_code_of};
+ghost use Rattle.capture.specs.Reader.{hold_of, quiet_of, head_of, carry_of, turn_of, ranges_of};
+ghost use Rattle.capture.specs.Loops.{told_of, opened_or, variant_or, waits_of, Led};
 
-use super::{Ahead, Reader, header};
+use super::{Ahead, Reader, Refusal, header};
+use pair::Bus;
 
-pub(crate) fn hold(s: Reader, code: u8) -> Reader
-    ensures { result ≡ hold_of s code }
+pub(crate) fn hold(s: Reader, why: Refusal) -> Reader
+    ensures { result ≡ hold_of s (refusal_code_of why) }
 {
-    let mut next = s;
-    next.held = code;
-    next
-}
-
-fn wide(b: u8) -> u32
-    ensures { result ≡ b }
-{
-    b as u32
-}
-
-// The device count is taken.
-fn opened(s: Reader, devices: u8) -> Reader
-    requires { s.head < 255 }
-    ensures { result ≡ opened_of s devices }
-{
-    let mut bus = s.bus;
-    bus.devices = devices;
-    let mut next = s;
-    next.head = s.head + 1;
-    next.bus = bus;
-    next
-}
-
-// A variant is taken: its device stands as after power-on.
-fn variant_taken(s: Reader, variant: u8) -> Reader
-    requires { s.head < 255 }
-    ensures { result ≡ variant_taken_of s variant }
-{
-    let bus = pair::placed(s.bus, 1 < s.head, device::bus::powered(variant));
-    let mut next = s;
-    next.head = s.head + 1;
-    next.bus = bus;
-    next
-}
-
-// Both devices would have one address.
-fn one_address(s: Reader, variant: u8) -> bool
-    ensures { result ≡ one_address s variant }
-{
-    let bus = s.bus;
-    let first = bus.first;
-    let taken = first.variant;
-    (1 < s.head) & (registers::address(variant) == registers::address(taken))
-}
-
-// A variant byte: 2, then 9.
-fn variant(s: Reader, b: u8) -> Reader
-    requires { s.head < 255 }
-    ensures { result ≡ variant_byte_of s b }
-{
-    if !device::ranges::variant(b) {
-        return hold(s, 2);
+    Reader {
+        held: u8::from(why),
+        ..s
     }
-    if one_address(s, b) {
-        return hold(s, 9);
+}
+
+// The next state, or why there is none, which the state then holds.
+fn told(s: Reader, taken: Result<Reader, Refusal>) -> Reader
+    ensures { result ≡ told_of s taken }
+{
+    match taken {
+        Ok(next) => next,
+        Err(why) => hold(s, why),
     }
-    variant_taken(s, b)
+}
+
+// The device count.
+fn opened(bus: Bus, devices: u8) -> Result<Bus, Refusal>
+    ensures { result ≡ opened_or bus devices }
+{
+    match devices {
+        1 | 2 => Ok(Bus { devices, ..bus }),
+        _ => Err(Refusal::DeviceCount),
+    }
+}
+
+// A variant: its device stands as after power-on.
+fn variant(bus: Bus, second: bool, variant: u8) -> Result<Bus, Refusal>
+    ensures { result ≡ variant_or bus second variant }
+{
+    if !device::ranges::variant(variant) {
+        return Err(Refusal::Variant);
+    }
+    if second & (registers::address(variant) == registers::address(bus.first.variant)) {
+        return Err(Refusal::OneAddress);
+    }
+    Ok(pair::placed(bus, second, device::bus::powered(variant)))
 }
 
 // A header byte: the device count, a variant, or one of the record count's four.
-fn head_byte(s: Reader, b: u8) -> Reader
+fn head_byte(s: Reader, b: u8) -> Result<Reader, Refusal>
     requires head_bound { s.head < 255 }
     requires count_bound { s.count < 0x1000000 }
-    ensures { result ≡ head_of s b }
+    ensures { told_of s result ≡ head_of s b }
 {
+    let head = s.head + 1;
     if s.head == 0 {
-        if (b == 1) | (b == 2) {
-            return opened(s, b);
-        }
-        return hold(s, 1);
+        let bus = opened(s.bus, b)?;
+        return Ok(Reader { head, bus, ..s });
     }
     if header::taken(s) < header::count_place(s.bus) {
-        return variant(s, b);
+        let bus = variant(s.bus, 1 < s.head, b)?;
+        return Ok(Reader { head, bus, ..s });
     }
-    let mut next = s;
-    next.head = s.head + 1;
-    next.count = s.count * 0x100 + wide(b);
-    next
+    Ok(Reader {
+        head,
+        count: s.count * 0x100 + u32::from(b),
+        ..s
+    })
 }
 
 // A byte at one of three places, each by a constant index, so that the state stays in registers.
@@ -94,29 +76,22 @@ fn placed(q: [u8; 3], at: u8, b: u8) -> [u8; 3]
     requires { at < 3 }
     ensures { result ≡ set q at b }
 {
-    let mut n = q;
-    if at == 0 {
-        n[0] = b;
-        return n;
+    match at {
+        0 => [b, q[1], q[2]],
+        1 => [q[0], b, q[2]],
+        _ => [q[0], q[1], b],
     }
-    if at == 1 {
-        n[1] = b;
-        return n;
-    }
-    n[2] = b;
-    n
 }
 
 fn carry(s: Reader, b: u8) -> Reader
     requires { s.carried < 3 }
     ensures { result ≡ carry_of s b }
 {
-    let q = s.bytes;
-    let mut next = s;
-    let bytes = placed(q, s.carried, b);
-    next.bytes = bytes;
-    next.carried = s.carried + 1;
-    next
+    Reader {
+        carried: s.carried + 1,
+        bytes: placed(s.bytes, s.carried, b),
+        ..s
+    }
 }
 
 // Three bytes of a record are carried: the next one completes it.
@@ -136,12 +111,12 @@ fn take_quiet(s: Reader, b: u8) -> Reader
         return s;
     }
     if header::ahead(s) {
-        return head_byte(s, b);
+        return told(s, head_byte(s, b));
     }
     if s.done < s.count {
         return carry(s, b);
     }
-    hold(s, 5)
+    hold(s, Refusal::PastEnd)
 }
 
 // As many bytes as complete no record.
@@ -151,16 +126,17 @@ pub(crate) fn lead(s: Reader, input: &[u8], from: usize) -> Ahead
     ensures { Led input.now s from result }
 {
     let mut n = s;
-    let mut at = from;
-    while at < input.len() {
+    for at in from..input.len() {
         if waits(n) {
-            break;
+            return Ahead { reader: n, at };
         }
         n = take_quiet(n, input[at]);
         if n.held != 0 {
-            break;
+            return Ahead { reader: n, at };
         }
-        at = at + 1;
     }
-    Ahead { reader: n, at }
+    Ahead {
+        reader: n,
+        at: input.len(),
+    }
 }

@@ -20,7 +20,7 @@ pub returns-then-not-in_range : goal.returns-then-not-in_range
 returns-then-not-in_range c =
     let a = c.args in
     let bad = sym c.in_range.ensures ∙ c.if-not-in_range.true in
-    rw c.report.ensures (outside a.reader a.input.now a.answers.now bad)
+    rw (c.report.ensures, c.from.ensures) (outside a.reader a.input.now a.answers.now bad)
 
 pub loop-at-init : goal.loop-at-init
 loop-at-init c =

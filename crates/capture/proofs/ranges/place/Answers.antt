@@ -11,4 +11,5 @@ returns c =
       c.taken.ensures,
       c.within.ensures,
       c.complete-complete.ensures,
+      c.from.ensures,
     )

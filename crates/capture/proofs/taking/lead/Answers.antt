@@ -1,22 +1,27 @@
+use Prim.Native.Nat.{ℕ, ◌≤◌}
 use native.Mathlib.Omega.{arith}
-use mathlib.Core.Path.{sym, ◌∙◌}
-use Rattle.capture.proofs.Leads.{lead_start, lead_end, lead_ready, lead_on, lead_stopped}
+use mathlib.Core.List.{List}
+use mathlib.Core.Path.{◌≡◌, sym, ◌∙◌}
+use lib.ListN.{length}
+use Rattle.capture.specs.declared.Reader.{Reader}
+use Rattle.capture.specs.Loops.{Led}
+use Rattle.capture.proofs.Leads.{Leading, lead_start, lead_end, lead_ready, lead_on, lead_stopped}
 use Rattle.capture.proofs.taking.lead.Goals as goal
+
+-- the input ends there
+ended : {input : List ℕ} {s : Reader} {from : ℕ} {n : Reader} {at : ℕ} → Leading input s from n at → length input ≤ at
+    → Led input s from (record { reader = n; at = length input })
+ended {input} {s} {from} {n} {at} l e =
+    let here : at ≡ length input = omega (arith, l.within) in
+    rw here at (lead_end l e)
 
 pub loop-at-init : goal.loop-at-init
 loop-at-init c =
-    lead_start c.args.input.now c.args.s c.args.from c.requires.in_range c.requires.within (omega arith)
+    lead_start c.args.input.now c.args.s c.args.from c.requires.in_range c.requires.within
 
 pub take_quiet-n-requires : goal.take_quiet-n-requires
 take_quiet-n-requires c =
     record { in_range = c.loop-at.invariant.ok; quiet = sym c.waits.ensures ∙ c.if-waits.false }
-
-pub overflow_add-at : goal.overflow_add-at
-overflow_add-at c =
-    omega (arith, c.loop-at-test.true, c.loop-at.invariant.fits)
-
-pub loop-at-smaller : goal.loop-at-smaller
-loop-at-smaller c = omega (arith, c.loop-at-test.true)
 
 pub loop-at-preserved : goal.loop-at-preserved
 loop-at-preserved c =
@@ -24,8 +29,8 @@ loop-at-preserved c =
     let small = (c.shared_slice_known-in-loop-at-1.given l.at).fits in
     lead_on l.invariant c.loop-at-test.true small c.take_quiet-n.ensures c.if-n-ne0.false
 
-pub returns-after-loop-at : goal.returns-after-loop-at
-returns-after-loop-at c = lead_end c.loop-at.invariant c.loop-at-test.false
+pub returns : goal.returns
+returns c = ended c.loop-at.invariant c.loop-at-test.false
 
 pub returns-then-waits : goal.returns-then-waits
 returns-then-waits c = lead_ready c.loop-at.invariant (sym c.waits.ensures ∙ c.if-waits.true)

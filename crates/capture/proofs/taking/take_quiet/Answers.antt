@@ -20,7 +20,7 @@ pub returns-then-ahead : goal.returns-then-ahead
 returns-then-ahead c =
     let a = c.args in
     let inside = ltb-true _ _ (sym c.ahead.ensures ∙ c.if-ahead.true) in
-    rw c.head_byte.ensures (head_turn a.s a.b c.if-s-ne0.false inside)
+    rw (c.told.ensures, c.head_byte.ensures) (head_turn a.s a.b c.if-s-ne0.false inside)
 
 pub carry-requires : goal.carry-requires
 carry-requires c =

@@ -1,4 +1,0 @@
-use Rattle.capture.proofs.running.carrying.Goals as goal
-
-pub returns : goal.returns
-returns c = rw c.placed-n.ensures

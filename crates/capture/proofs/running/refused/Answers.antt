@@ -1,4 +1,0 @@
-use Rattle.capture.proofs.running.refused.Goals as goal
-
-pub returns : goal.returns
-returns c = rw (c.report.ensures, c.hold.ensures)

@@ -1,4 +1,0 @@
-use Rattle.capture.proofs.taking.carry.Goals as goal
-
-pub returns : goal.returns
-returns c = rw c.placed-bytes.ensures
