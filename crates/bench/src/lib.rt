@@ -1,6 +1,6 @@
 #![tactic(auto)]
 
-// The bench's call on a whole capture, for C.
+// The bench's call on a whole capture.
 ghost use Rattle.std.specs.Prelude.{◌≡◌};
 ghost use Rattle.bench.specs.Bench.{last_of, RanWhole};
 
@@ -18,12 +18,10 @@ fn last_code(code: u8, reader: Reader) -> u8
 }
 
 // A whole capture and an answer buffer: sixteen times the answer bytes written, plus the code.
-#[unsafe(no_mangle)]
-pub extern "C" fn lm89_run(bytes: &[u8], answers: &mut [u8]) -> u64
+pub fn run(bytes: &[u8], answers: &mut [u8]) -> u64
     ensures { RanWhole bytes.now result answers.old answers.new }
 {
     let fed = capture::feed(capture::fresh(), bytes, answers);
-    let reader = fed.reader;
-    let last = last_code(fed.code, reader);
-    (fed.written as u64) * 16 + (last as u64)
+    let last = last_code(fed.code, fed.reader);
+    fed.written as u64 * 16 + u64::from(last)
 }

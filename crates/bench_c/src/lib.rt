@@ -7,5 +7,5 @@ ghost use Rattle.bench.specs.Bench.{RanWhole};
 pub extern "C" fn lm89_run(bytes: &[u8], answers: &mut [u8]) -> u64
     ensures { RanWhole bytes.now result answers.old answers.new }
 {
-    bench::lm89_run(bytes, answers)
+    bench::run(bytes, answers)
 }

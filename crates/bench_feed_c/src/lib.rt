@@ -10,7 +10,7 @@ use capture::{Fed, Reader};
 pub extern "C" fn lm89_fresh() -> Reader
     ensures { result ≡ fresh_of }
 {
-    bench_feed::lm89_fresh()
+    bench_feed::fresh()
 }
 
 // The next part, and room for its answers.
@@ -18,7 +18,7 @@ pub extern "C" fn lm89_fresh() -> Reader
 pub extern "C" fn lm89_feed(reader: Reader, input: &[u8], answers: &mut [u8]) -> Fed
     ensures { FedWith reader input.now result answers.old answers.new }
 {
-    bench_feed::lm89_feed(reader, input, answers)
+    bench_feed::feed(reader, input, answers)
 }
 
 // Asked at the end of the capture.
@@ -26,5 +26,5 @@ pub extern "C" fn lm89_feed(reader: Reader, input: &[u8], answers: &mut [u8]) ->
 pub extern "C" fn lm89_finish(reader: Reader) -> u8
     ensures { result ≡ finish_of reader }
 {
-    bench_feed::lm89_finish(reader)
+    bench_feed::finish(reader)
 }

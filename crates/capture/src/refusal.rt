@@ -2,36 +2,26 @@
 ghost use Rattle.std.specs.Prelude.{◌≡◌};
 ghost use Rattle.capture.specs.Refusal.{refusal_code_of, of_record};
 
-// In the order of the codes, 1 to 9. A reader holds those that refuse a byte; the others, a capture that is cut short, no room for a record's answers and a
+// Each with its code. A reader holds those that refuse a byte; the others, a capture that is cut short, no room for a record's answers and a
 // reader out of its ranges, it tells alone.
 #[derive(Clone, Copy, Debug, PartialEq, Eq)]
 pub enum Refusal {
-    DeviceCount,
-    Variant,
-    Kind,
-    Operand,
-    PastEnd,
-    CutShort,
-    Room,
-    Range,
-    OneAddress,
+    DeviceCount = 1,
+    Variant = 2,
+    Kind = 3,
+    Operand = 4,
+    PastEnd = 5,
+    CutShort = 6,
+    Room = 7,
+    Range = 8,
+    OneAddress = 9,
 }
 
 impl From<Refusal> for u8 {
     ghost from_gives = { λ why code. code ≡ refusal_code_of why };
 
     fn from(why: Refusal) -> u8 {
-        match why {
-            Refusal::DeviceCount => 1,
-            Refusal::Variant => 2,
-            Refusal::Kind => 3,
-            Refusal::Operand => 4,
-            Refusal::PastEnd => 5,
-            Refusal::CutShort => 6,
-            Refusal::Room => 7,
-            Refusal::Range => 8,
-            Refusal::OneAddress => 9,
-        }
+        why as u8
     }
 }
 

@@ -5,18 +5,19 @@ ghost use Rattle.pair.specs.Hand.{named_at, away_of, other_lines_of, others_of, 
 
 use super::{Bus, Named, picked, placed, response};
 use device::bus::ALERT_RESPONSE;
+use record::Kind;
 
-// Kinds of records: up to RECEIVE they have an address, from CONVERSION_2 on they are the second device's.
-// Kept as numbers: an enum of kinds is no plainer, since these are bytes that no table has judged yet, compared by order for each record of the loop.
-const RECEIVE: u8 = 4;
+// Kinds of records: up to RECEIVE they have an address, from CONVERT_SECOND on they are the second device's.
+// Kept as numbers: record::Kind is no plainer, since these are bytes that no table has judged yet, and they are compared by order.
+const RECEIVE: u8 = Kind::Receive as u8;
 
-const CONVERSION: u8 = 5;
+const CONVERT: u8 = Kind::Convert as u8;
 
-const OPEN: u8 = 6;
+const OPEN: u8 = Kind::Open as u8;
 
-const POWER_ON: u8 = 7;
+const POWER_ON: u8 = Kind::PowerOn as u8;
 
-const CONVERSION_2: u8 = 8;
+const CONVERT_SECOND: u8 = Kind::ConvertSecond as u8;
 
 // How many devices, which is at hand, whether both restart, and of the other its address and its lines.
 // Kept as bools: picked_of, placed_of and the theorems of specs/ say by a Bool which device is meant.
@@ -54,7 +55,7 @@ fn named(bus: Bus, kind: u8, a: u8) -> Named
     match kind {
         ..=RECEIVE => at_address(bus, a),
         POWER_ON => Named::Both,
-        CONVERSION_2.. => Named::Second,
+        CONVERT_SECOND.. => Named::Second,
         _ => Named::First,
     }
 }
@@ -99,9 +100,9 @@ fn others(second: bool, kind: u8) -> bool
     ensures { result ≡ others_of second kind }
 {
     if second {
-        (kind == CONVERSION) | (kind == OPEN)
+        (kind == CONVERT) | (kind == OPEN)
     } else {
-        CONVERSION_2 <= kind
+        CONVERT_SECOND <= kind
     }
 }
 

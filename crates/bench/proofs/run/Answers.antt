@@ -1,7 +1,7 @@
 use native.Mathlib.Omega.{arith}
 use Rattle.capture_laws.proofs.Counts.{bytes_of}
 use Rattle.bench.proofs.Runs.{ran, small}
-use Rattle.bench.proofs.lm89_run.Goals as goal
+use Rattle.bench.proofs.run.Goals as goal
 
 pub overflow_mul-result : goal.overflow_mul-result
 overflow_mul-result c =
@@ -18,4 +18,4 @@ overflow_add-result c =
 pub returns : goal.returns
 returns c =
     let m = rw c.fresh.ensures at c.feed-fed.ensures in
-    rw c.last_code-last.ensures (ran c.args.bytes.now c.args.answers.now c.feed-fed.result m)
+    rw (c.from.ensures, c.last_code-last.ensures) (ran c.args.bytes.now c.args.answers.now c.feed-fed.result m)
