@@ -1,3 +1,5 @@
 pub mod Runs
 pub mod Tables
+pub mod Told
 pub mod Loop
+pub mod OneAnswer

@@ -1,69 +1,50 @@
--- The loop of `back`: what is read, and what is left. `latest_first`: the records from the end backwards are those at falling places of the byte string.
+-- The loop of `back`: what is read, and what is left. `quads_are`: a byte string's complete records are its arrays of four bytes.
 -- Assumes nothing.
-use Prim.Native.Nat.{ℕ, zero, suc, ◌+◌, ◌-◌, ◌*◌, ◌/◌, ◌%◌, ◌<◌}
+use Prim.Native.Nat.{ℕ, zero, suc, ◌+◌, ◌*◌, ◌/◌, ◌%◌}
 use mathlib.Core.Path.{◌≡◌, refl, sym, ap, ◌∙◌}
-use mathlib.Core.Bool.{Bool, true, false, not, ◌&&◌}
-use mathlib.Core.List.{List, [], ◌∷◌, ◌++◌, reverse-cons}
+use mathlib.Core.Bool.{true, false}
+use mathlib.Core.List.{List, [], ◌∷◌, ◌++◌, map, reverse, reverse-cons}
 use native.Mathlib.Omega.{arith}
-use lib.Dec.{ltb}
-use lib.ListN.{length, get_or}
-use borrow.Author.Tests.{ltb-true, lt-ltb}
-use Rattle.laws.proofs.Choices.{clash, and_left, and_right}
+use lib.IntN.{ℤ}
+use lib.ListN.{length, length-append}
+use Rattle.std.specs.Prelude.{Ok, Err}
+use Rattle.std.proofs.lemmas.List.{reverse-append, map-append}
+use Rattle.std.specs.Simd.{first_chunks}
 use Rattle.device.specs.declared.Device.{Device}
 use Rattle.device.specs.declared.Event.{Event}
-use Rattle.record.specs.Record.{Record}
-use Rattle.std.specs.Prelude.{Ok, Err}
+use Rattle.record.specs.declared.refusal.Refusal.{Refusal}
 use Rattle.record.specs.declared.refusal.Refusal.TheVariants.{Kind, Operand}
-use Rattle.record.specs.Record.{code_of}
+use Rattle.record.specs.Record.{Record, code_of}
 use Rattle.record.specs.Fours.{Quad, quads}
 use Rattle.soak.specs.declared.Soaked.{Soaked}
 use Rattle.soak.specs.declared.Ends.{Ends}
 use Rattle.soak.specs.Soak.{Running, met_of, latest_first, both_decided, refuses_of, answers_of, on_met, back_of}
-use Rattle.soak.specs.Ends.{quad, remote_of, began_of, before_of, decided_by, pulled_by}
+use Rattle.soak.specs.Ends.{quad, quad_in, remote_of, told_if, readings_of, began_of, before_of, decided_by, pulled_by}
 use Rattle.soak.proofs.Runs.{AllConvert, converts}
 use Rattle.soak.proofs.Tables.{ends_by, none_read, before_is, decided_is, pulled_is}
 
--- ---- records by their places
+-- ---- records by fours
 
--- record number n, from 0
-abbrev pub quad_at : List ℕ → ℕ → Quad
-quad_at xs n = quad (get_or xs (n * 4) 0) (get_or xs (n * 4 + 1) 0) (get_or xs (n * 4 + 2) 0) (get_or xs (n * 4 + 3) 0)
+pub quads_are : (xs : List ℕ) (n : ℕ) → length xs ≡ n * 4 → map quad_in (first_chunks 4 n xs) ≡ quads xs
+quads_are [] zero e = refl
+quads_are [] (suc n) e = absurd (omega arith)
+quads_are (k ∷ []) n e = absurd (omega arith)
+quads_are (k ∷ a ∷ []) n e = absurd (omega arith)
+quads_are (k ∷ a ∷ b ∷ []) n e = absurd (omega arith)
+quads_are (k ∷ a ∷ b ∷ c ∷ xs) zero e = absurd (omega arith)
+quads_are (k ∷ a ∷ b ∷ c ∷ xs) (suc n) e = ap (λ (l : List Quad). quad k a b c ∷ l) (quads_are xs n (omega arith))
 
--- the first n records, the latest first
-unfoldable pub backwards : List ℕ → ℕ → List Quad
-backwards xs zero = []
-backwards xs (suc n) = quad_at xs n ∷ backwards xs n
+reversed : {A B : Type 0} (f : A → B) (xs : List A) → reverse (map f xs) ≡ map f (reverse xs)
+reversed f [] = refl
+reversed {B = B} f (x ∷ xs) =
+    reverse-cons (f x) (map f xs)
+    ∙ ap (λ (l : List B). l ++ (f x ∷ [])) (reversed f xs)
+    ∙ sym (map-append f (reverse xs) (x ∷ []))
+    ∙ ap (map f) (sym (reverse-cons x xs))
 
-module _ (k a b c : ℕ) (xs : List ℕ) where
-  four_more : (i j : ℕ) → j ≡ suc (suc (suc (suc i))) → get_or (k ∷ a ∷ b ∷ c ∷ xs) j 0 ≡ get_or xs i 0
-  four_more i j e = rw e
-
-  quad_shift : (n : ℕ) → quad_at (k ∷ a ∷ b ∷ c ∷ xs) (suc n) ≡ quad_at xs n
-  quad_shift n =
-      rw (
-        four_more (n * 4) (suc n * 4) (omega arith),
-        four_more (n * 4 + 1) (suc n * 4 + 1) (omega arith),
-        four_more (n * 4 + 2) (suc n * 4 + 2) (omega arith),
-        four_more (n * 4 + 3) (suc n * 4 + 3) (omega arith),
-      )
-
-  backwards_shift : (n : ℕ) → backwards (k ∷ a ∷ b ∷ c ∷ xs) (suc n) ≡ backwards xs n ++ (quad k a b c ∷ [])
-  unfolding backwards
-  backwards_shift zero = refl
-  backwards_shift (suc n) =
-      ap (λ (q : Quad). q ∷ backwards (k ∷ a ∷ b ∷ c ∷ xs) (suc n)) (quad_shift n) ∙ ap (λ (l : List Quad). quad_at xs n ∷ l) (backwards_shift n)
-
-pub latest_first_lem : (xs : List ℕ) (n : ℕ) → length xs ≡ n * 4 → latest_first xs ≡ backwards xs n
-unfolding backwards
-latest_first_lem [] zero e = refl
-latest_first_lem [] (suc n) e = absurd (omega arith)
-latest_first_lem (k ∷ []) n e = absurd (omega arith)
-latest_first_lem (k ∷ a ∷ []) n e = absurd (omega arith)
-latest_first_lem (k ∷ a ∷ b ∷ []) n e = absurd (omega arith)
-latest_first_lem (k ∷ a ∷ b ∷ c ∷ xs) zero e = absurd (omega arith)
-latest_first_lem (k ∷ a ∷ b ∷ c ∷ xs) (suc n) e =
-    reverse-cons (quad k a b c) (quads xs) ∙ ap (λ (l : List Quad). l ++ (quad k a b c ∷ [])) (latest_first_lem xs n (omega arith))
-    ∙ sym (backwards_shift k a b c xs n)
+-- the records of a stretch from the end backwards
+pub latest_are : (xs : List ℕ) → length xs % 4 ≡ 0 → map quad_in (reverse (first_chunks 4 (length xs / 4) xs)) ≡ latest_first xs
+latest_are xs h = sym (reversed quad_in (first_chunks 4 (length xs / 4) xs)) ∙ ap reverse (quads_are xs (length xs / 4) (omega arith))
 
 -- ---- one record of the definition
 
@@ -101,78 +82,100 @@ module _ (d : Device) (read : List Event) where
   unfolding back_of
   back_none = refl
 
+refusal_code : (why : Refusal) → code_of (Err why) ≡ 0 → ⊥
+unfolding code_of
+refusal_code Kind e = absurd (omega arith)
+refusal_code Operand e = absurd (omega arith)
+
+-- what a record reads as an event, and as the two readings
+pub record Reads (q : Quad) (s : List ℕ) (local : ℕ) (remote : ℤ) : Type 0 where
+  pub event : Event
+  pub is : met_of q ≡ Ok event
+  pub local_is : q.a ≡ local
+  pub remote_is : remote_of s q.kind q.b q.c ≡ remote
+
+pub reads : (s : List ℕ) (q : Quad) (local : ℕ) (remote : ℤ) → readings_of s q ≡ Ok (local, remote) → Reads q s local remote
+reads s q local remote = by_met (met_of q) refl
+  where
+    by_met : (r : Record) → met_of q ≡ r → told_if r q.a (remote_of s q.kind q.b q.c) ≡ Ok (local, remote) → Reads q s local remote
+    by_met (Ok e) m t =
+        let both : ◌≡◌ {A = ℕ × ℤ} (q.a, remote_of s q.kind q.b q.c) (local, remote) = cc in
+        record { event = e; is = m; local_is = ap (λ (p : ℕ × ℤ). p.0) both; remote_is = ap (λ (p : ℕ × ℤ). p.1) both }
+    by_met (Err why) m t = cc
+
+pub unread : (s : List ℕ) (q : Quad) (why : Refusal) → readings_of s q ≡ Err why → met_of q ≡ Err why
+unread s q why = by_met (met_of q)
+  where
+    by_met : (r : Record) → told_if r q.a (remote_of s q.kind q.b q.c) ≡ Err why → r ≡ Err why
+    by_met (Ok e) t = cc
+    by_met (Err w) t = cc
+
 -- ---- the loop
 
-pub record Going (d : Device) (xs : List ℕ) (t : Ends) (left : ℕ) : Type 0 where
+-- of the arrays `xs`: so many are read, the last first, and those before them are left
+pub record Going (d : Device) (xs : List (List ℕ)) (t : Ends) (count : ℕ) (left : List (List ℕ)) : Type 0 where
   pub read : List Event
   pub all : AllConvert read
   pub table : t ≡ ends_by d read
-  pub counted : length read + left ≡ length xs / 4
-  pub same : back_of d [] (latest_first xs) ≡ back_of d read (backwards xs left)
+  pub counted : count ≡ length read
+  pub split : count + length left ≡ length xs
+  pub same : back_of d [] (map quad_in (reverse xs)) ≡ back_of d read (map quad_in (reverse left))
 
-pub begin : (d : Device) (xs : List ℕ) → length xs % 4 ≡ 0 → (t : Ends) → t ≡ began_of → Going d xs t (length xs / 4)
-begin d xs h t e =
-    record {
-      read = [];
-      all = tt;
-      table = e ∙ none_read d;
-      counted = omega arith;
-      same = ap (back_of d []) (latest_first_lem xs (length xs / 4) (omega arith));
-    }
+pub begin : (d : Device) (xs : List (List ℕ)) (t : Ends) → t ≡ began_of → Going d xs t 0 xs
+begin d xs t e = record { read = []; all = tt; table = e ∙ none_read d; counted = refl; split = omega arith; same = refl }
 
-module _ {d : Device} {xs : List ℕ} {t : Ends} {left : ℕ} (running : Running d) (g : Going d xs t left) where
+module _ {d : Device} {xs : List (List ℕ)} {t : Ends} {count : ℕ} {left : List (List ℕ)} (running : Running d) (g : Going d xs t count left) where
   decided_now : decided_by t ≡ both_decided d g.read
   decided_now = ap decided_by g.table ∙ decided_is d running g.read g.all
 
-  module _ (n : ℕ) (e : left ≡ suc n) (b : decided_by t ≡ false) where
-    undecided : both_decided d g.read ≡ false
-    undecided = sym decided_now ∙ b
+  module _ (before : List (List ℕ)) (x : List ℕ) (e : left ≡ before ++ (x ∷ [])) where
+    pub fewer : count + 1 + length before ≡ length xs
+    fewer = omega (arith, g.split, ap length e, length-append before (x ∷ []))
 
-    next : back_of d [] (latest_first xs) ≡ back_of d g.read (quad_at xs n ∷ backwards xs n)
-    unfolding backwards
-    next = g.same ∙ rw e
+    module _ (b : decided_by t ≡ false) where
+      undecided : both_decided d g.read ≡ false
+      undecided = sym decided_now ∙ b
 
-    pub refused : (code_of (met_of (quad_at xs n)) ≡ 0 → ⊥) → back_of d [] (latest_first xs) ≡ refuses_of (code_of (met_of (quad_at xs n))) (length xs / 4 - n)
-    refused z =
-        let count : length g.read + 1 ≡ length xs / 4 - n = omega (arith, g.counted, e) in
-        next ∙ back_refused d g.read (quad_at xs n) (backwards xs n) undecided z ∙ ap (refuses_of (code_of (met_of (quad_at xs n)))) count
+      next : back_of d [] (map quad_in (reverse xs)) ≡ back_of d g.read (quad_in x ∷ map quad_in (reverse before))
+      next = g.same ∙ ap (λ (l : List (List ℕ)). back_of d g.read (map quad_in l)) (ap reverse e ∙ reverse-append before (x ∷ []))
 
-    pub onward : code_of (met_of (quad_at xs n)) ≡ 0 → (u : Ends)
-        → u ≡ before_of d.settings t (get_or xs (n * 4 + 1) 0) (remote_of d.settings (get_or xs (n * 4) 0) (get_or xs (n * 4 + 2) 0) (get_or xs (n * 4 + 3) 0))
-        → Going d xs u n
-    unfolding converts
-    onward z u p =
-        let v = valid (met_of (quad_at xs n)) z in
-        let c = converts (quad_at xs n) v.event v.is in
-        record {
-          read = v.event ∷ g.read;
-          all = (c, g.all);
-          table = p ∙ ap (λ (x : Ends). before_of d.settings x c.local (c.remote d.settings)) g.table
-              ∙ before_is d running g.read g.all v.event c;
-          counted = omega (arith, g.counted, e);
-          same = next ∙ back_met d g.read (quad_at xs n) (backwards xs n) v.event undecided v.is;
-        }
+      pub refused : (why : Refusal) → readings_of d.settings (quad_in x) ≡ Err why
+          → back_of d [] (map quad_in (reverse xs)) ≡ refuses_of (code_of (Err why)) (count + 1)
+      refused why r =
+          let met = unread d.settings (quad_in x) why r in
+          next
+          ∙ back_refused d g.read (quad_in x) (map quad_in (reverse before)) undecided (λ z. refusal_code why (ap code_of (sym met) ∙ z))
+          ∙ rw (met, g.counted)
+
+      pub onward : (local : ℕ) (remote : ℤ) → readings_of d.settings (quad_in x) ≡ Ok (local, remote) → (u : Ends)
+          → u ≡ before_of d.settings t local remote → Going d xs u (count + 1) before
+      unfolding converts
+      onward local remote r u p =
+          let v = reads d.settings (quad_in x) local remote r in
+          let c = converts (quad_in x) v.event v.is in
+          record {
+            read = v.event ∷ g.read;
+            all = (c, g.all);
+            table = p ∙ ap (λ (l : ℕ). before_of d.settings t l remote) (sym v.local_is)
+                ∙ ap (λ (m : ℤ). before_of d.settings t (quad_in x).a m) (sym v.remote_is)
+                ∙ ap (λ (y : Ends). before_of d.settings y c.local (c.remote d.settings)) g.table
+                ∙ before_is d running g.read g.all v.event c;
+            counted = omega (arith, g.counted);
+            split = fewer;
+            same = next ∙ back_met d g.read (quad_in x) (map quad_in (reverse before)) v.event undecided v.is;
+          }
 
   -- what the loop returns at its end
-  abbrev ended : Soaked
-  ended = record { code = 0; pulled = pulled_by d t; read = length xs / 4 - left }
+  answered : back_of d [] (map quad_in (reverse xs)) ≡ answers_of d g.read
+      → record { code = 0; pulled = pulled_by d t; read = count } ≡ back_of d [] (map quad_in (reverse xs))
+  answered p = rw (g.table, pulled_is d running g.read g.all, g.counted) (sym p)
 
-  answered : back_of d [] (latest_first xs) ≡ answers_of d g.read → ended ≡ back_of d [] (latest_first xs)
-  answered p =
-      let count : length xs / 4 - left ≡ length g.read = omega (arith, g.counted) in
-      rw (g.table, pulled_is d running g.read g.all, count) (sym p)
+  pub ends_decided : decided_by t ≡ true → record { code = 0; pulled = pulled_by d t; read = count } ≡ back_of d [] (map quad_in (reverse xs))
+  ends_decided b = answered (g.same ∙ back_decided d g.read (map quad_in (reverse left)) (sym decided_now ∙ b))
 
-  pub finished : (ltb 0 left && not (decided_by t)) ≡ false → ended ≡ back_of d [] (latest_first xs)
-  unfolding backwards
-  finished f = by_left left refl (decided_by t) refl f
+  pub ends_at_start : length left ≡ 0 → record { code = 0; pulled = pulled_by d t; read = count } ≡ back_of d [] (map quad_in (reverse xs))
+  ends_at_start z = answered (g.same ∙ ap (λ (l : List (List ℕ)). back_of d g.read (map quad_in (reverse l))) (none left z) ∙ back_none d g.read)
     where
-      by_left : (n : ℕ) → left ≡ n → (b : Bool) → decided_by t ≡ b → (ltb 0 n && not b) ≡ false
-          → ended ≡ back_of d [] (latest_first xs)
-      by_left zero e b p f = answered (g.same ∙ ap (λ (n : ℕ). back_of d g.read (backwards xs n)) e ∙ back_none d g.read)
-      by_left (suc n) e true p f = answered (g.same ∙ back_decided d g.read (backwards xs left) (sym decided_now ∙ p))
-      by_left (suc n) e false p f = clash (sym f ∙ rw (lt-ltb 0 (suc n) (omega arith)))
-
--- what a turn knows: something is left, and not both are decided
-pub going_on : (n : ℕ) (x : Bool) → (ltb 0 n && not x) ≡ true → (0 < n) × (x ≡ false)
-going_on n true e = clash (and_right (ltb 0 n) false e)
-going_on n false e = (ltb-true 0 n (and_left (ltb 0 n) true e), refl)
+      none : (l : List (List ℕ)) → length l ≡ 0 → l ≡ []
+      none [] e = refl
+      none (y ∷ l) e = absurd (omega arith)

@@ -1,25 +1,40 @@
 -- The program's detour: it keeps no record, but what those read make of every earlier latch and fault count, and with each record more works that out anew.
 -- Nothing of document 02 stands here; `proofs/Tables.antt` says that it is `decided_of`, and T_CRIT_A after the records read.
 -- Assumes nothing.
-use Rattle.std.specs.Prelude.{ℕ, Bool, true, false, ◌&&◌, cond, List, [], ◌∷◌, ℤ, eqb}
+use Rattle.std.specs.Prelude.{ℕ, Bool, true, false, ◌&&◌, cond, List, [], ◌∷◌, ℤ, eqb, slice_index, Result, Ok, Err}
 use Rattle.temperature.specs.Temperature.{open_reading, cleared_of}
 use Rattle.registers.specs.Page.{setting_of}
 use Rattle.conversion.specs.Conversion.{reading_of, latch_of, local_of, local_out_of, faults_of, remote_shown_of}
 use Rattle.device.specs.declared.Device.{Device}
 use Rattle.device.specs.Pins.{tcrit_of}
+use Rattle.record.specs.declared.refusal.Refusal.{Refusal}
+use Rattle.record.specs.Record.{Record}
 use Rattle.record.specs.Fours.{Quad}
 use Rattle.soak.specs.declared.Made.{Made}
 use Rattle.soak.specs.declared.Ends.{Ends}
-use Rattle.soak.specs.Soak.{supposing, alike}
+use Rattle.soak.specs.Soak.{met_of, supposing, alike}
 
 -- ---- a record
 
 abbrev pub quad : ℕ → ℕ → ℕ → ℕ → Quad
 quad kind a b c = record { kind = kind; a = a; b = b; c = c }
 
+-- of four bytes
+abbrev pub quad_in : List ℕ → Quad
+quad_in bytes = quad (slice_index bytes 0) (slice_index bytes 1) (slice_index bytes 2) (slice_index bytes 3)
+
 -- P2: the remote reading of a 05 or 06, in eighths
 unfoldable pub remote_of : List ℕ → ℕ → ℕ → ℕ → ℤ
 remote_of s kind b c = cond (eqb kind 0x06) open_reading.eighths (reading_of s b c).eighths
+
+-- what a record that is read as an event tells, else why it is refused
+abbrev pub told_if : Record → ℕ → ℤ → Result (ℕ × ℤ) Refusal
+told_if (Ok e) local remote = Ok (local, remote)
+told_if (Err why) local remote = Err why
+
+-- the local byte and the remote reading of a valid 05 or 06
+abbrev pub readings_of : List ℕ → Quad → Result (ℕ × ℤ) Refusal
+readings_of s q = told_if (met_of q) q.a (remote_of s q.kind q.b q.c)
 
 -- ---- what the records read make of an earlier latch
 

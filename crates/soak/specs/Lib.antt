@@ -1,4 +1,5 @@
 pub mod Soak
 pub mod Ends
+pub mod Answers
 pub mod Opened
 pub mod Examples

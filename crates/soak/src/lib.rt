@@ -1,24 +1,36 @@
 #![tactic(auto)]
 
 // T_CRIT_A at the end of a soak (request f): a stretch of conversions under one setup, read from the end backwards until both channels are decided.
-ghost use Rattle.std.specs.Prelude.{◌≡◌, ◌&&◌, [], ◌%◌, length};
+ghost use Rattle.std.specs.Prelude.{◌≡◌, ◌&&◌, [], map, reverse, IfErr};
 ghost use Rattle.device.specs.Bus.{standby_of};
 ghost use Rattle.device.specs.Ranges.{variant_of, ranged_of};
-ghost use Rattle.record.specs.Record.{code_of};
-ghost use Rattle.soak.specs.Soak.{Running, met_of, refuses_of, latest_first, back_of, soak_of};
-ghost use Rattle.soak.specs.Ends.{quad, remote_of, began_of, made_of, through_of, counted_of, local_before, remote_before, before_of, decided_by, pulled_by};
+ghost use Rattle.soak.specs.Soak.{Running, back_of, soak_of};
+ghost use Rattle.soak.specs.Answers.{soaked_of, Counted};
+ghost use Rattle.soak.specs.Ends.{quad_in, readings_of};
 
 use conversion::Sensed;
-use device::Device;
-use record::Refusal;
+use device::{Device, Event};
+use record::Kind;
 use registers::bits;
 
-// The kinds that a soak is made of.
-const CONVERSION: u8 = 5;
+// Whether T_CRIT_A is pulled, and how many records were read.
+#[derive(Clone, Copy, Debug, PartialEq, Eq)]
+pub struct Answer {
+    pub pulled: bool,
+    pub read: u64,
+}
 
-const OPEN: u8 = 6;
+// A device out of its ranges or of no variant; one in standby; a length that is no multiple of four; or the first record met from the end that is no valid
+// 05 or 06, why, and how many were read, it among them.
+#[derive(Clone, Copy, Debug, PartialEq, Eq)]
+pub enum Refusal {
+    OutOfRange,
+    Standby,
+    Uneven,
+    Record(record::Refusal, u64),
+}
 
-// A code, whether T_CRIT_A is pulled, and how many records were read, a refused one among them.
+// What C gets: a code, whether T_CRIT_A is pulled, and how many records were read, a refused one among them.
 #[repr(C)]
 #[derive(Clone, Copy)]
 pub struct Soaked {
@@ -27,11 +39,86 @@ pub struct Soaked {
     pub read: u64,
 }
 
+impl From<Refusal> for u8 {
+    ghost use Rattle.soak.specs.Answers.{refusal_code};
+
+    ghost from_gives = { λ refusal code. code ≡ refusal_code refusal };
+
+    fn from(refusal: Refusal) -> u8 {
+        match refusal {
+            Refusal::OutOfRange => 8,
+            Refusal::Standby => 10,
+            Refusal::Uneven => 4,
+            Refusal::Record(why, _) => u8::from(why),
+        }
+    }
+}
+
+impl Refusal {
+    ghost use Rattle.soak.specs.Answers.{refusal_read};
+
+    fn read(self) -> u64
+        ensures { result ≡ refusal_read self }
+    {
+        match self {
+            Refusal::Record(_, read) => read,
+            _ => 0,
+        }
+    }
+}
+
+impl From<Result<Answer, Refusal>> for Soaked {
+    ghost use Rattle.soak.specs.Answers.{soaked_of};
+
+    ghost from_gives = { λ answer soaked. soaked ≡ soaked_of answer };
+
+    fn from(answer: Result<Answer, Refusal>) -> Soaked {
+        match answer {
+            Ok(Answer { pulled, read }) => Soaked {
+                code: 0,
+                pulled,
+                read,
+            },
+            Err(refusal) => Soaked {
+                code: u8::from(refusal),
+                pulled: false,
+                read: refusal.read(),
+            },
+        }
+    }
+}
+
 // What the records read make of an earlier latch: of a clear one and of a set one.
-#[derive(Clone, Copy)]
+#[derive(Clone, Copy, PartialEq, Eq)]
 pub struct Made {
     pub clear: bool,
     pub set: bool,
+}
+
+impl Made {
+    ghost use Rattle.soak.specs.Ends.{made_of, through_of};
+
+    // No record read: a latch is what it was.
+    const SAME: Made = Made {
+        clear: false,
+        set: true,
+    };
+
+    fn of(self, latch: bool) -> bool
+        ensures { result ≡ made_of self latch }
+    {
+        if latch { self.set } else { self.clear }
+    }
+
+    // P8, with one conversion more before those read.
+    fn through(self, critical: bool, cleared: bool) -> Made
+        ensures { result ≡ through_of self critical cleared }
+    {
+        Made {
+            clear: self.of(conversion::latch(critical, cleared, false)),
+            set: self.of(conversion::latch(critical, cleared, true)),
+        }
+    }
 }
 
 // What they make of it on each channel; on the remote one by the earlier fault count, 2 and 3 alike: a further fault makes 3 of both.
@@ -43,172 +130,137 @@ pub struct Ends {
     pub more: Made,
 }
 
-fn refused(code: u8, read: u64) -> Soaked
-    ensures { result ≡ refuses_of code read }
-{
-    Soaked {
-        code,
-        pulled: false,
-        read,
-    }
-}
+impl Ends {
+    ghost use Rattle.soak.specs.Ends.{began_of, counted_of, local_before, remote_before, before_of, decided_by, pulled_by};
 
-// 0 for a valid 05 or 06, 3 for another kind, else 4.
-fn judged(kind: u8, a: u8, b: u8, c: u8) -> u8
-    ensures { result ≡ code_of (met_of (quad kind a b c)) }
-{
-    if (kind == CONVERSION) | (kind == OPEN) {
-        return match record::decode(1, kind, a, b, c) {
-            Ok(_) => 0,
-            Err(why) => u8::from(why),
+    fn began() -> Ends
+        ensures { result ≡ began_of }
+    {
+        Ends {
+            local: Made::SAME,
+            none: Made::SAME,
+            one: Made::SAME,
+            more: Made::SAME,
+        }
+    }
+
+    // What is made of the remote latch, by the fault count.
+    fn counted(self, faults: u8) -> Made
+        ensures { result ≡ counted_of self faults }
+    {
+        match faults {
+            0 => self.none,
+            1 => self.one,
+            _ => self.more,
+        }
+    }
+
+    #[tactic(auto, unfolding(crate::specs::Ends::local_before, registers::specs::Page::setting_of, registers::specs::Page::read_position_of))]
+    fn local_before(self, s: [u8; 14], local: u8) -> Made
+        ensures { result ≡ local_before s self local }
+    {
+        let here = temperature::eighths(local, 0);
+        let out = conversion::local_limits(s).compare(here);
+        let cleared = temperature::cleared(
+            here,
+            s[registers::LOCAL_CRIT],
+            s[registers::HYSTERESIS],
+        );
+        self.local.through(out.crit, cleared)
+    }
+
+    // P4: from this fault count.
+    #[tactic(auto, unfolding(crate::specs::Ends::remote_before, registers::specs::Page::setting_of, registers::specs::Page::read_position_of))]
+    fn remote_before(self, s: [u8; 14], remote: i16, faults: u8) -> Made
+        ensures { result ≡ remote_before s self remote faults }
+    {
+        let out = conversion::remote_limits(s).compare(remote);
+        let cleared = temperature::cleared(
+            remote,
+            s[registers::REMOTE_CRIT],
+            s[registers::HYSTERESIS],
+        );
+        let count = conversion::count(faults, out.any());
+        let v = out.shown(conversion::queued(s[registers::CONFIGURATION], count));
+        self.counted(count).through(v.crit, cleared)
+    }
+
+    // With one conversion more before those read.
+    #[tactic(auto, unfolding(crate::specs::Ends::before_of))]
+    fn before(self, s: [u8; 14], local: u8, remote: i16) -> Ends
+        ensures { result ≡ before_of s self local remote }
+    {
+        Ends {
+            local: self.local_before(s, local),
+            none: self.remote_before(s, remote, 0),
+            one: self.remote_before(s, remote, 1),
+            more: self.remote_before(s, remote, 2),
+        }
+    }
+
+    // Both channels: the same latch whatever came before.
+    fn decided(self) -> bool
+        ensures { result ≡ decided_by self }
+    {
+        (self.local.clear == self.local.set)
+            & (self.none.clear == self.none.set)
+            & (self.none == self.one)
+            & (self.none == self.more)
+    }
+
+    // T_CRIT_A after the records read, from this device.
+    #[tactic(auto, unfolding(crate::specs::Ends::pulled_by))]
+    fn pulled(self, d: Device) -> bool
+        ensures { result ≡ pulled_by d self }
+    {
+        let old = d.sensed;
+        let sensed = Sensed {
+            llatch: self.local.of(old.llatch),
+            rlatch: self.counted(old.faults).of(old.rlatch),
+            ..old
         };
-    }
-    u8::from(Refusal::Kind)
-}
-
-// P2: the remote reading of a 05 or 06, in eighths.
-fn remote(s: [u8; 14], kind: u8, b: u8, c: u8) -> i16
-    ensures { result ≡ remote_of s kind b c }
-{
-    if kind == OPEN {
-        return temperature::open_reading().eighths;
-    }
-    conversion::reading(s, b, c).eighths
-}
-
-// No record read: a latch is what it was.
-fn began() -> Ends
-    ensures { result ≡ began_of }
-{
-    let same = Made {
-        clear: false,
-        set: true,
-    };
-    Ends {
-        local: same,
-        none: same,
-        one: same,
-        more: same,
+        device::outputs::tcrit(Device { sensed, ..d })
     }
 }
 
-fn made_of(m: Made, latch: bool) -> bool
-    ensures { result ≡ made_of m latch }
+// What a record reads, if it is a valid 05 or 06: the local byte, and the remote reading in eighths (P2). Another kind is refused whatever its operands.
+fn readings(s: [u8; 14], quad: [u8; 4]) -> Result<(u8, i16), record::Refusal>
+    ensures { result ≡ readings_of s (quad_in quad) }
 {
-    if latch { m.set } else { m.clear }
-}
-
-// P8, with one conversion more before those read.
-fn through(m: Made, critical: bool, cleared: bool) -> Made
-    ensures { result ≡ through_of m critical cleared }
-{
-    Made {
-        clear: made_of(m, conversion::latch(critical, cleared, false)),
-        set: made_of(m, conversion::latch(critical, cleared, true)),
+    let [kind, a, b, c] = quad;
+    if (kind != Kind::Convert as u8) & (kind != Kind::Open as u8) {
+        return Err(record::Refusal::Kind);
     }
-}
-
-// What is made of the remote latch, by the fault count.
-fn counted(t: Ends, faults: u8) -> Made
-    ensures { result ≡ counted_of t faults }
-{
-    match faults {
-        0 => t.none,
-        1 => t.one,
-        _ => t.more,
+    match record::decode(1, kind, a, b, c)? {
+        Event::Convert(local, high, low) => {
+            Ok((local, conversion::reading(s, high, low).eighths))
+        }
+        Event::Open(local) => Ok((local, temperature::open_reading().eighths)),
+        _ => Err(record::Refusal::Kind),
     }
-}
-
-fn local_before(s: [u8; 14], t: Ends, local: u8) -> Made
-    ensures { result ≡ local_before s t local }
-{
-    let here = temperature::eighths(local, 0);
-    let out = conversion::local_limits(s).compare(here);
-    let cleared = temperature::cleared(here, s[registers::LOCAL_CRIT], s[registers::HYSTERESIS]);
-    through(t.local, out.crit, cleared)
-}
-
-// P4: from this fault count.
-fn remote_before(s: [u8; 14], t: Ends, remote: i16, faults: u8) -> Made
-    ensures { result ≡ remote_before s t remote faults }
-{
-    let out = conversion::remote_limits(s).compare(remote);
-    let cleared = temperature::cleared(remote, s[registers::REMOTE_CRIT], s[registers::HYSTERESIS]);
-    let count = conversion::count(faults, out.any());
-    let v = out.shown(conversion::queued(s[registers::CONFIGURATION], count));
-    through(counted(t, count), v.crit, cleared)
-}
-
-// With one conversion more before those read.
-fn before(s: [u8; 14], t: Ends, local: u8, remote: i16) -> Ends
-    ensures { result ≡ before_of s t local remote }
-{
-    Ends {
-        local: local_before(s, t, local),
-        none: remote_before(s, t, remote, 0),
-        one: remote_before(s, t, remote, 1),
-        more: remote_before(s, t, remote, 2),
-    }
-}
-
-// Both channels: the same latch whatever came before.
-fn decided(t: Ends) -> bool
-    ensures { result ≡ decided_by t }
-{
-    let l = t.local;
-    let n = t.none;
-    let o = t.one;
-    let m = t.more;
-    let all = n.clear & (n.set & (o.clear & (o.set & (m.clear & m.set))));
-    let none = !n.clear & (!n.set & (!o.clear & (!o.set & (!m.clear & !m.set))));
-    ((l.clear & l.set) | (!l.clear & !l.set)) & (all | none)
-}
-
-// T_CRIT_A after the records read, from this device.
-fn pulled(d: Device, t: Ends) -> bool
-    ensures { result ≡ pulled_by d t }
-{
-    let old = d.sensed;
-    let sensed = Sensed {
-        local: old.local,
-        remote: old.remote,
-        live: old.live,
-        faults: old.faults,
-        llatch: made_of(t.local, old.llatch),
-        rlatch: made_of(counted(t, old.faults), old.rlatch),
-    };
-    let mut n = d;
-    n.sensed = sensed;
-    device::outputs::tcrit(n)
 }
 
 // From the end backwards until both channels are decided or the start is reached.
-fn back(d: Device, records: &[u8]) -> Soaked
-    requires { Running d × (length records.now % 4 ≡ 0) }
-    ensures { result ≡ back_of d [] (latest_first records.now) }
+fn back(d: Device, quads: &[[u8; 4]]) -> Result<Answer, Refusal>
+    requires { Running d }
+    ensures told { soaked_of result ≡ back_of d [] (map quad_in (reverse quads.now)) }
+    ensures counted { IfErr result Counted }
 {
-    let s = d.settings;
-    let count = records.len() / 4;
-    let mut t = began();
-    let mut left = count;
-    while (left > 0) & !decided(t) {
-        left = left - 1;
-        let i = left * 4;
-        let kind = records[i];
-        let a = records[i + 1];
-        let b = records[i + 2];
-        let c = records[i + 3];
-        let code = judged(kind, a, b, c);
-        if code != 0 {
-            return refused(code, (count - left) as u64);
+    let mut ends = Ends::began();
+    let mut read = 0;
+    for &quad in quads.iter().rev() {
+        if ends.decided() {
+            break;
         }
-        t = before(s, t, a, remote(s, kind, b, c));
+        read += 1;
+        let met = readings(d.settings, quad);
+        let (local, remote) = met.map_err(|why| Refusal::Record(why, read))?;
+        ends = ends.before(d.settings, local, remote);
     }
-    Soaked {
-        code: 0,
-        pulled: pulled(d, t),
-        read: (count - left) as u64,
-    }
+    Ok(Answer {
+        pulled: ends.pulled(d),
+        read,
+    })
 }
 
 fn in_range(d: Device) -> bool
@@ -217,28 +269,27 @@ fn in_range(d: Device) -> bool
     device::ranges::variant(d.variant) & device::ranges::ranged(d)
 }
 
+#[tactic(auto, unfolding(registers::specs::Page::setting_of, registers::specs::Page::read_position_of))]
 fn in_standby(d: Device) -> bool
     ensures { result ≡ standby_of d.settings }
 {
-    d.settings[registers::CONFIGURATION] & bits::STANDBY != 0
+    bits::has(d.settings[registers::CONFIGURATION], bits::STANDBY)
 }
 
-// Is T_CRIT_A pulled at the end? 8 for a device out of its ranges or of no variant, 10 in standby, 4 for a length that is no multiple of four, then at the
-// first record met from the end that is no valid 05 or 06, 3 for another kind, else 4.
-#[unsafe(no_mangle)]
-pub extern "C" fn lm89_soak(device: Device, records: &[u8]) -> Soaked
-    ensures { result ≡ soak_of device records.now }
+// Is T_CRIT_A pulled at the end?
+pub fn soak(device: Device, records: &[u8]) -> Result<Answer, Refusal>
+    ensures told { soaked_of result ≡ soak_of device records.now }
+    ensures counted { IfErr result Counted }
 {
-    let ranged = in_range(device);
-    let asleep = in_standby(device);
-    if !ranged {
-        return refused(8, 0);
+    if !in_range(device) {
+        return Err(Refusal::OutOfRange);
     }
-    if asleep {
-        return refused(10, 0);
+    if in_standby(device) {
+        return Err(Refusal::Standby);
     }
-    if records.len() % 4 != 0 {
-        return refused(4, 0);
+    let (quads, over) = records.as_chunks::<4>();
+    if !over.is_empty() {
+        return Err(Refusal::Uneven);
     }
-    back(device, records)
+    back(device, quads)
 }

@@ -1,69 +1,51 @@
-use Prim.Native.Nat.{◌-◌}
-use mathlib.Core.Path.{sym, ◌∙◌}
-use native.Mathlib.Omega.{arith}
-use Rattle.temperature.proofs.Laws.{same}
-use Rattle.soak.proofs.Loop.{begin, refused, onward, finished, going_on}
+use Prim.Native.Nat.{◌+◌}
+use mathlib.Core.Path.{◌≡◌, refl, sym, ◌∙◌}
+use borrow.Author.Rules.{rules}
+use mir.Syntax.{w16}
+use mir.Val.{SFits}
+use mir.Facts.{to_z-of_z}
+use Rattle.std.specs.Prelude.{Result, Ok, Err, MatchResult}
+use Rattle.std.specs.Result.{IsErrAnd}
+use Rattle.std.proofs.lemmas.Result.{err_from_is_err_and}
+use Rattle.record.specs.declared.refusal.Refusal as why
+use Rattle.soak.specs.declared.Refusal.TheVariants.{Record}
+use Rattle.soak.proofs.Loop.{onward, refused, ends_decided, ends_at_start}
 use Rattle.soak.proofs.back.Goals as goal
+use Rattle.soak.proofs.back.Goals.{in-None, in-Some+then-decided}
 
-pub loop-left-init : goal.loop-left-init
-loop-left-init c = begin _ _ c.requires.1 _ c.began-t.ensures
+-- what `map_err` makes of an error
+mapped : {X W E : Type 0} {P : W → E → Type 0} (f : W → E) → ((w : W) (e : E) → P w e → e ≡ f w) → (r : Result X W) (m : Result X E) (e : E)
+    → MatchResult r (λ x. m ≡ Ok x) (λ w. IsErrAnd m (P w)) → m ≡ Err e → (w : W) × (r ≡ Err w) × (e ≡ f w)
+mapped f by (Ok x) m e h p = cc
+mapped f by (Err w) (Ok x) e h p = cc
+mapped f by (Err w) (Err d) e h p = (w, refl, let q : e ≡ d = cc in q ∙ by w d h)
 
-pub overflow_sub-left : goal.overflow_sub-left
-overflow_sub-left c = (going_on c.loop-left.left c.decided.result c.loop-left-test.true).0
+kept : {X W E : Type 0} (P : W → E → Type 0) (r : Result X W) (m : Result X E) (x : X)
+    → MatchResult r (λ y. m ≡ Ok y) (λ w. IsErrAnd m (P w)) → m ≡ Ok x → r ≡ Ok x
+kept P (Ok y) m x h p = cc
+kept P (Err w) (Ok y) x h p = absurd h
+kept P (Err w) (Err d) x h p = cc
 
-pub bounds-records-i : goal.bounds-records-i
-bounds-records-i c =
-    let on = going_on c.loop-left.left c.decided.result c.loop-left-test.true in
-    omega (arith, on.0, c.loop-left.invariant.counted)
+pub returns-in_err-local-clause-told : goal.returns-in_err-local-clause-told
+returns-in_err-local-clause-told c =
+    let undecided = sym c.decided.ensures ∙ c.if-decided.false in
+    let told = mapped (λ (w : why.Refusal). Record w (c.loop-quad.read + 1)) (λ w e k. search rules) c.readings-met.result c.map_err.result
+    c.in_err-local.field-0.0 c.map_err.ensures.cases c.in_err-local.was in
+    let p = err_from_is_err_and c.from_residual.result c.from_residual.ensures.1 in
+    rw (p.1, p.2, told.2) (sym (refused c.requires c.loop-quad.invariant _ _ c.in-Some.ensures.steps undecided told.0 (sym c.readings-met.ensures ∙ told.1)))
 
-pub bounds-records-i-in-loop-left : goal.bounds-records-i-in-loop-left
-bounds-records-i-in-loop-left c =
-    let on = going_on c.loop-left.left c.decided.result c.loop-left-test.true in
-    omega (arith, on.0, c.loop-left.invariant.counted)
+pub loop-quad-preserved : goal.loop-quad-preserved
+loop-quad-preserved c =
+    let undecided = sym c.decided.ensures ∙ c.if-decided.false in
+    let told = kept _ c.readings-met.result c.map_err.result (c.in_ok-local.local, c.in_ok-local.remote) c.map_err.ensures.cases c.in_ok-local.was in
+    let fits : SFits w16 c.in_ok-local.remote = search rules in
+    onward c.requires c.loop-quad.invariant _ _ c.in-Some.ensures.steps undecided c.in_ok-local.local c.in_ok-local.remote (sym c.readings-met.ensures ∙ told) _
+    (c.before-ends.ensures ∙ rw (to_z-of_z fits))
 
-pub bounds-records-i-in-loop-left-2 : goal.bounds-records-i-in-loop-left-2
-bounds-records-i-in-loop-left-2 c =
-    let on = going_on c.loop-left.left c.decided.result c.loop-left-test.true in
-    omega (arith, on.0, c.loop-left.invariant.counted)
-
-pub bounds-records-i-in-loop-left-3 : goal.bounds-records-i-in-loop-left-3
-bounds-records-i-in-loop-left-3 c =
-    let on = going_on c.loop-left.left c.decided.result c.loop-left-test.true in
-    omega (arith, on.0, c.loop-left.invariant.counted)
-
-pub overflow_sub-count : goal.overflow_sub-count
-overflow_sub-count c =
-    let on = going_on c.loop-left.left c.decided.result c.loop-left-test.true in
-    omega (arith, on.0, c.loop-left.invariant.counted)
-
-pub returns-then-code-ne0 : goal.returns-then-code-ne0
-returns-then-code-ne0 c =
-    let on = going_on c.loop-left.left c.decided.result c.loop-left-test.true in
-    let code = c.judged-code.ensures in
-    let undecided = sym c.decided.ensures ∙ on.1 in
-    let running = c.requires.0 in
-    let refusal = refused running c.loop-left.invariant (c.loop-left.left - 1) (omega (arith, on.0)) undecided (rw code at c.if-code-ne0.true) in
-    rw (c.refused.ensures, code) (sym refusal)
-
-pub loop-left-smaller : goal.loop-left-smaller
-loop-left-smaller c =
-    let on = going_on c.loop-left.left c.decided.result c.loop-left-test.true in
-    omega (arith, on.0)
-
-pub loop-left-preserved : goal.loop-left-preserved
-loop-left-preserved c =
-    let on = going_on c.loop-left.left c.decided.result c.loop-left-test.true in
-    let code = c.judged-code.ensures in
-    let undecided = sym c.decided.ensures ∙ on.1 in
-    let valid = rw code at c.if-code-ne0.false in
-    let here = same c.remote.result c.remote.type_inv in
-    let further = rw (here, c.remote.ensures) at c.before-t.ensures in
-    onward c.requires.0 c.loop-left.invariant (c.loop-left.left - 1) (omega (arith, on.0)) undecided valid _ further
-
-pub overflow_sub-result : goal.overflow_sub-result
-overflow_sub-result c = omega (arith, c.loop-left.invariant.counted)
-
-pub returns : goal.returns
-returns c =
-    let stopped = rw c.decided.ensures at c.loop-left-test.false in
-    rw c.pulled.ensures (finished c.requires.0 c.loop-left.invariant stopped)
+pub returns-clause-told : goal.returns-clause-told
+returns-clause-told c =
+    let invariant = c.loop-quad.invariant in
+    elim c.match-next.branch [
+      | in-None w ↦ rw c.pulled.ensures (ends_at_start c.requires invariant w.in-None.ensures.steps.0)
+      | in-Some+then-decided w ↦ rw c.pulled.ensures (ends_decided c.requires invariant (sym w.decided.ensures ∙ w.if-decided.true))
+    ]

@@ -1,8 +1,7 @@
+use Rattle.std.specs.Iterator.Adapters.{rev_source}
+use Rattle.std.specs.Slice.Iter.{iter_rest}
 use Rattle.soak.proofs.Loop.{Going}
 use Rattle.soak.proofs.back.Given as goal
 
-abbrev pub invariant-loop-left : goal.invariant-loop-left
-invariant-loop-left l = Going l.d l.records l.t l.left
-
-abbrev pub decreases-loop-left : goal.decreases-loop-left
-decreases-loop-left l = l.left
+abbrev pub invariant-loop-quad : goal.invariant-loop-quad
+invariant-loop-quad l = Going l.d l.quads l.ends l.read (iter_rest (rev_source l.quad-iterator))
