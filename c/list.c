@@ -13,7 +13,7 @@
 #include "lm89.h"
 #include "lm89_list.h"
 
-/* As crates/listing_loop declares them. */
+/* As crates/listing_loop/src/steps.rt declares them. */
 typedef struct {
     lm89_reader reader;
     uint8_t failure;

@@ -6,14 +6,15 @@ ghost use Rattle.listing_loop.specs.List.{failed_of, Lists};
 ghost use Rattle.listing_loop.specs.Loop.{ReadLaid, wrote_of, ended_of, EndLaid};
 
 use capture::Reader;
-use listing_loop::{EndLine, LastPage, Listed, Page, Part, Went};
+use listing_loop::steps;
+use listing_loop::steps::{EndLine, LastPage, Listed, Page, Part, Went};
 use std::io::{Read, Write};
 
 // To the end of the input or to the first refused byte, from a reader to a writer.
 pub fn lm89_list<R: Read, W: Write>(input: &mut R, output: &mut W) -> Listed
     ensures { Lists result }
 {
-    listing_loop::list(input, output)
+    listing_loop::list(input, output).into()
 }
 
 // A reader before its first byte.
@@ -30,7 +31,7 @@ pub extern "C" fn lm89_list_lay(reader: Reader, got: isize, page: &mut Page) -> 
     ensures laid { ReadLaid reader got page.old.buffer result page.old.text page.new.text }
     ensures buffer { page.new.buffer ≡ page.old.buffer }
 {
-    listing_loop::lay_page(reader, got, page)
+    steps::lay_page(reader, got, page)
 }
 
 // Whether another turn follows, by whether the text of this one was written.
@@ -38,7 +39,7 @@ pub extern "C" fn lm89_list_lay(reader: Reader, got: isize, page: &mut Page) -> 
 pub extern "C" fn lm89_list_wrote(part: Part, written: bool) -> Went
     ensures { result ≡ wrote_of part written }
 {
-    listing_loop::wrote(part, written)
+    steps::wrote(part, written)
 }
 
 // The end line.
@@ -46,7 +47,7 @@ pub extern "C" fn lm89_list_wrote(part: Part, written: bool) -> Went
 pub extern "C" fn lm89_list_lay_end(reader: Reader, page: &mut LastPage) -> EndLine
     ensures { EndLaid reader result page.old.text page.new.text }
 {
-    listing_loop::lay_last(reader, page)
+    steps::lay_last(reader, page)
 }
 
 // How the listing ended, by whether its end line was written.
@@ -54,7 +55,7 @@ pub extern "C" fn lm89_list_lay_end(reader: Reader, page: &mut LastPage) -> EndL
 pub extern "C" fn lm89_list_ended(reader: Reader, code: u8, written: bool) -> Listed
     ensures { result ≡ ended_of reader code written }
 {
-    listing_loop::ended(reader, code, written)
+    steps::ended(reader, code, written)
 }
 
 // After a turn that failed.
@@ -62,5 +63,5 @@ pub extern "C" fn lm89_list_ended(reader: Reader, code: u8, written: bool) -> Li
 pub extern "C" fn lm89_list_failed(failure: u8) -> Listed
     ensures { result ≡ failed_of failure }
 {
-    listing_loop::failed(failure)
+    steps::failed(failure)
 }

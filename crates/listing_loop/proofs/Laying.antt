@@ -15,10 +15,10 @@ use Rattle.lines.proofs.Layers.{one_line}
 use Rattle.lines_laws.specs.Turns.{Turn}
 use Rattle.lines_laws.proofs.Numbered.{laid_front}
 use Rattle.lines_laws.proofs.Turns.{turn_text}
-use Rattle.listing_loop.specs.declared.Part.{Part}
-use Rattle.listing_loop.specs.declared.EndLine.{EndLine}
-use Rattle.listing_loop.specs.declared.Page.{Page}
-use Rattle.listing_loop.specs.declared.LastPage.{LastPage}
+use Rattle.listing_loop.specs.declared.steps.Part.{Part}
+use Rattle.listing_loop.specs.declared.steps.EndLine.{EndLine}
+use Rattle.listing_loop.specs.declared.steps.Page.{Page}
+use Rattle.listing_loop.specs.declared.steps.LastPage.{LastPage}
 use Rattle.listing_loop.specs.Loop.{part_of, PartLaid, ReadLaid, EndLaid}
 use Rattle.listing_loop.specs.Loop.ReadLaid.{no_part, a_part}
 

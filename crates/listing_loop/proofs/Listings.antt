@@ -3,7 +3,7 @@
 -- `allowed`: of every capture, however it is cut into parts that are read, the promise allows that result, of those parts. `two_parts` is
 -- one of them, worked.
 -- Assumes nothing.
-use Rattle.std.proofs.Common.{◌≡◌, ℕ, ◌≤◌, List, [], ◌∷◌, ◌++◌, length, replicate, sym, ap, ◌∙◌, append-nil, arith}
+use Rattle.std.proofs.Common.{◌≡◌, ℕ, ◌≤◌, List, [], ◌∷◌, ◌++◌, length, replicate, Result, Ok, Err, refl, sym, ap, ◌∙◌, append-nil, arith}
 use lib.ListN.{length-replicate}
 use Rattle.capture.specs.declared.Reader.{Reader}
 use Rattle.capture.specs.Opened.{capture_opened}
@@ -16,8 +16,11 @@ use Rattle.lines_laws.specs.WholeListing.{capture_listing_of}
 use Rattle.lines_laws.specs.Turns.{answer_room, text_room, end_room, Unread, Output, Read, Ends}
 use Rattle.lines_laws.proofs.Turns.{last_whole, last_finishing, lists}
 use Rattle.lines_laws.proofs.Endings.{turns_end}
-use Rattle.listing_loop.specs.declared.Listed.{Listed}
-use Rattle.listing_loop.specs.List.{whole, told_of, listed_of, Listing, Lists}
+use Rattle.listing_loop.specs.declared.steps.Listed.{Listed}
+use Rattle.listing_loop.specs.declared.Failure.{Failure}
+use Rattle.listing_loop.specs.declared.Failure.TheVariants.{NotRead, NotWritten}
+use Rattle.listing_loop.specs.declared.Totals.{Totals}
+use Rattle.listing_loop.specs.List.{whole, told_of, listed_from, listed_of, Listing, Lists}
 use Rattle.listing_loop.specs.List.Lists.{in_full, not_read, not_written}
 
 -- ---- one listing
@@ -48,6 +51,18 @@ one_listing v w rest other t u k l same =
     let p = is_listing v rest t k in
     let q = is_listing w other u l in
     (p.0 ∙ ap listed_of same ∙ sym q.0, p.1 ∙ ap capture_listing_of same ∙ sym q.1)
+
+-- what C gets of a result tells it
+pub listed_once : (r s : Result Totals Failure) → listed_from r ≡ listed_from s → r ≡ s
+listed_once (Ok t) (Ok u) e = λ i. Ok (record { consumed = (e i).consumed; done = (e i).done; code = (e i).code })
+listed_once (Ok t) (Err NotRead) e = absurd (omega (arith, ap (λ (l : Listed). l.failure) e))
+listed_once (Ok t) (Err NotWritten) e = absurd (omega (arith, ap (λ (l : Listed). l.failure) e))
+listed_once (Err NotRead) (Ok u) e = absurd (omega (arith, ap (λ (l : Listed). l.failure) e))
+listed_once (Err NotWritten) (Ok u) e = absurd (omega (arith, ap (λ (l : Listed). l.failure) e))
+listed_once (Err NotRead) (Err NotRead) e = refl
+listed_once (Err NotRead) (Err NotWritten) e = absurd (omega (arith, ap (λ (l : Listed). l.failure) e))
+listed_once (Err NotWritten) (Err NotRead) e = absurd (omega (arith, ap (λ (l : Listed). l.failure) e))
+listed_once (Err NotWritten) (Err NotWritten) e = refl
 
 -- ---- of every capture
 

@@ -1,20 +1,24 @@
 -- What is laid of a part, from what the calls of the listing promise; the part of a buffer that a read filled; and what an end line comes to.
 -- Assumes nothing.
-use Rattle.std.proofs.Common.{◌≡◌, ℕ, ◌≤◌, Bool, true, false, List, length, min, take, drop, ℤ, pos, negsuc, sym, ap, ◌∙◌, subst, arith, ltb-true}
-use lib.IntN.{nat_abs}
-use lib.Signed.{lt_z}
-use Rattle.laws.proofs.Choices.{clash}
+use Rattle.std.proofs.Common.{◌≡◌, ℕ, zero, suc, ◌≤◌, Bool, true, false, not, ◌&&◌, ◌==◌, nat_lt, List, length, min, take, drop, ℤ, pos, negsuc, Ok, refl, sym, ap, ◌∙◌, subst, arith}
+use Rattle.std.specs.declared.option.Option.{Option}
+use Rattle.std.specs.declared.ops.ControlFlow.TheVariants.{Continue, Break}
+use Rattle.std.specs.Io.KnownBytes.{Appends}
+use Rattle.std.specs.Prelude.{unsigned_abs, FitsSigned}
+use Rattle.std.specs.Int.{w64, FitsUnsignedBits}
+use borrow.Author.Tests.{lt-ltb, ne_eqb}
 use Rattle.laws.proofs.Buffers.{take_min}
 use Rattle.capture.specs.declared.Reader.{Reader}
 use Rattle.capture.specs.declared.Fed.{Fed}
-use Rattle.capture.specs.Reader.{Out, Meets, FedWith}
+use Rattle.capture.specs.Reader.{Out, Meets, FedWith, finish_of}
 use Rattle.capture_laws.specs.Schedule.{Bytes}
-use Rattle.lines.specs.Lines.{next_of, fitting_lines_of, LinesLaid}
-use Rattle.lines.proofs.Layers.{inside, in_front}
-use Rattle.listing_loop.specs.declared.Listed.{Listed}
-use Rattle.listing_loop.specs.declared.Part.{Part}
-use Rattle.listing_loop.specs.declared.EndLine.{EndLine}
-use Rattle.listing_loop.specs.Loop.{part_of, not_read_of, PartLaid, ReadLaid, ended_of, EndLaid, Ended}
+use Rattle.lines.specs.Lines.{next_of, fitting_lines_of, end_line_of, Lined, LinesLaid}
+use Rattle.lines.proofs.Layers.{in_front}
+use Rattle.listing_loop.specs.declared.PartLines.{PartLines}
+use Rattle.listing_loop.specs.declared.Totals.{Totals}
+use Rattle.listing_loop.specs.declared.steps.Part.{Part}
+use Rattle.listing_loop.specs.List.{whole, totals_of}
+use Rattle.listing_loop.specs.Loop.{more_of, part_of, part_from, not_read_of, PartLaid, ReadLaid, GotBytes, Took, Ended}
 use Rattle.listing_loop.specs.Loop.ReadLaid.{no_part, a_part}
 use Rattle.lines_laws.specs.Turns.{read_most, answer_room, text_room, end_room}
 use Rattle.lines_laws.proofs.Numbered.{laid_front}
@@ -25,10 +29,11 @@ answers_inside {o} {entry = entry} p = in_front o.answers (drop (length o.answer
 
 pub made_part : (s : Reader) (part : List ℕ) {r : Fed} {lent answers blank page : List ℕ} {size first : ℕ} → FedWith s part r lent answers
     → first ≡ next_of s.done → LinesLaid first (take r.written answers) size blank page → Bytes part
-    → length part ≤ read_most → answer_room ≤ length lent → text_room ≤ length blank → PartLaid s part (part_of part r size) blank page
-made_part s part {r} {lent} {answers} {blank} {page} {size} fed next listed bytes read room wide =
+    → length part ≤ read_most → answer_room ≤ length lent → text_room ≤ length blank → {p : Part} → p ≡ part_of part r size → PartLaid s part p blank page
+made_part s part {r} {lent} {answers} {blank} {page} {size} fed next listed bytes read room wide told =
     let numbered = rw next at listed in
-    record {
+    rw told
+    (record {
       r = r;
       text = fitting_lines_of (length blank) (next_of s.done) (take r.written answers);
       bytes = bytes;
@@ -48,28 +53,65 @@ made_part s part {r} {lent} {answers} {blank} {page} {size} fed next listed byte
           };
       laid = numbered;
       told = ap (part_of part r) numbered.told;
-    }
+    })
+
+-- another turn may follow a part that is not empty, at code 0
+not_zero : (n : ℕ) → not (n == 0) ≡ nat_lt 0 n
+not_zero zero = refl
+not_zero (suc n) = ap not (ne_eqb (suc n) 0 (λ e. omega arith)) ∙ sym (lt-ltb 0 (suc n) (omega arith))
+
+more_is : (part : List ℕ) (r : Fed) {empty more : Bool} → empty ≡ (length part == 0) → (not empty && r.code == 0) ≡ more → more_of part r ≡ more
+more_is part r e h = ap (λ (b : Bool). b && r.code == 0) (sym (not_zero (length part)) ∙ ap not (sym e)) ∙ h
+
+pub made_more : (part : List ℕ) (r : Fed) (size : ℕ) {empty : Bool} → empty ≡ (length part == 0) → (not empty && r.code == 0) ≡ true
+    → part_from (record { next = Continue r.reader; size = size }) ≡ part_of part r size
+made_more part r size e h = λ i. record { reader = r.reader; failure = whole; more = sym (more_is part r e h) i; size = size }
+
+pub made_last : (part : List ℕ) (r : Fed) (size : ℕ) {empty : Bool} → empty ≡ (length part == 0) → (not empty && r.code == 0) ≡ false
+    → part_from (record { next = Break r.reader; size = size }) ≡ part_of part r size
+made_last part r size e h = λ i. record { reader = r.reader; failure = whole; more = sym (more_is part r e h) i; size = size }
 
 -- ---- what a read answered
 
-pub made_failed : (s : Reader) (got : ℤ) (buffer text : List ℕ) → lt_z got (pos 0) ≡ true → ReadLaid s got buffer (not_read_of s) text text
-made_failed s (pos n) buffer text h = absurd (omega (arith, ltb-true n 0 h))
-made_failed s (negsuc n) buffer text h = no_part
+pub made_failed : (s : Reader) (got : ℤ) (buffer text : List ℕ) → FitsSigned w64 got → (FitsUnsignedBits 64 got → ⊥)
+    → ReadLaid s got buffer (not_read_of s) text text
+made_failed s (pos n) buffer text fits h = absurd (h (omega (arith, fits)))
+made_failed s (negsuc n) buffer text fits h = no_part
 
-pub made_read : (s : Reader) (got : ℤ) (buffer : List ℕ) {p : Part} {entry exit : List ℕ} {count : ℕ} → lt_z got (pos 0) ≡ false
-    → count ≡ min (nat_abs got) (length buffer) → PartLaid s (take count buffer) p entry exit → ReadLaid s got buffer p entry exit
+pub made_read : (s : Reader) (got : ℤ) (buffer : List ℕ) {p : Part} {entry exit : List ℕ} {count least : ℕ} → FitsUnsignedBits 64 got × (count ≡ unsigned_abs got)
+    → least ≡ min count (length buffer) → PartLaid s (take least buffer) p entry exit → ReadLaid s got buffer p entry exit
 made_read s (pos n) buffer {p} {entry} {exit} h e t =
-    a_part (subst (λ (part : List ℕ). PartLaid s part p entry exit) (ap (λ (k : ℕ). take k buffer) e ∙ take_min n buffer) t)
-made_read s (negsuc n) buffer h e t = clash (sym h)
+    a_part (subst (λ (part : List ℕ). PartLaid s part p entry exit) (ap (λ (k : ℕ). take k buffer) (rw h.1 at e) ∙ take_min n buffer) t)
+made_read s (negsuc n) buffer h e t = absurd h.0
 
--- what is laid of a read is within the lent text
-pub read_inside : {s : Reader} {got : ℤ} {buffer entry exit : List ℕ} {p : Part} → ReadLaid s got buffer p entry exit → p.size ≤ length exit
-read_inside no_part = omega arith
-read_inside (a_part l) = inside l.laid
+-- ---- a turn
+
+-- the part that a read put to the front of a buffer, and the text of it that was written
+pub made_turn : {s : Reader} {left after held grown : Option (List ℕ)} {n : ℕ} (buffer : List ℕ) {blank page : List ℕ} {l : PartLines}
+    → GotBytes left after (Ok n) buffer → PartLaid s (take n buffer) (part_from l) blank page → Appends held grown (take l.size page)
+    → Took s left after held grown l.next
+made_turn {held = held} {grown = grown} buffer got p wrote =
+    record {
+      part = _;
+      r = p.r;
+      text = p.text;
+      bytes = p.bytes;
+      turn = p.turn;
+      reader = ap (λ (p : Part). p.reader) p.told;
+      goes = ap (λ (p : Part). p.more) p.told;
+      read = got.1;
+      wrote = subst (Appends held grown) (laid_front p.laid) wrote;
+    }
 
 -- ---- the end
 
-pub made_end : {last : Reader} {e : EndLine} {blank page : List ℕ} {r : Listed} (written : Bool) → EndLaid last e blank page
-    → end_room ≤ length blank → r ≡ ended_of last e.code written → Ended last r
-made_end {e = e} {blank = blank} {page = page} written laid wide told =
-    record { line = e; blank = blank; page = page; wide = wide; laid = laid; written = written; told = rw laid.code at told }
+pub made_end : {last : Reader} {held grown : Option (List ℕ)} {code size : ℕ} {blank page : List ℕ} {t : Totals} → code ≡ finish_of last
+    → Lined (end_line_of last.done code) size blank page → end_room ≤ length blank → Appends held grown (take size page)
+    → t ≡ totals_of last code → Ended last held grown t
+made_end {size = size} {blank = blank} {page = page} code lined wide wrote told =
+    record {
+      line = take size page;
+      end = record { blank = blank; page = page; size = size; wide = wide; lined = rw code at lined; written = refl };
+      wrote = wrote;
+      told = rw code at told;
+    }

@@ -2,7 +2,7 @@
 -- Assumes nothing.
 use Rattle.std.specs.Prelude.{◌≡◌, ℕ, List, [], ◌∷◌, map, refl}
 use Rattle.capture.specs.Opened.{capture_opened}
-use Rattle.listing_loop.specs.declared.Listed.{Listed}
+use Rattle.listing_loop.specs.declared.steps.Listed.{Listed}
 use Rattle.listing_loop.specs.List.{whole, listed_of}
 
 pub record Worked : Type 0 where

@@ -1,14 +1,17 @@
 -- Listing in full, from a reader to a writer: what the call tells, and of which turns. That `parts` are the bytes that the call
 -- was handed, and `output` those that it handed on, is in no promise.
 -- Assumes nothing.
-use Rattle.std.specs.Prelude.{◌≡◌, ℕ, List}
+use Rattle.std.specs.Prelude.{◌≡◌, ℕ, List, Result, Ok, Err}
 use Rattle.capture.specs.declared.Reader.{Reader}
 use Rattle.capture.specs.Reader.{finish_of}
 use Rattle.capture.specs.Whole.{whole_of}
 use Rattle.capture_laws.specs.Schedule.{joined, Bytes}
 use Rattle.capture_laws.specs.Places.{consumed_of}
 use Rattle.lines_laws.specs.Turns.{Output}
-use Rattle.listing_loop.specs.declared.Listed.{Listed}
+use Rattle.listing_loop.specs.declared.Failure.{Failure}
+use Rattle.listing_loop.specs.declared.Failure.TheVariants.{NotRead, NotWritten}
+use Rattle.listing_loop.specs.declared.Totals.{Totals}
+use Rattle.listing_loop.specs.declared.steps.Listed.{Listed}
 
 -- ---- the result
 
@@ -22,6 +25,10 @@ not_read_failure = 1
 abbrev pub not_written_failure : ℕ
 not_written_failure = 2
 
+abbrev pub failure_of : Failure → ℕ
+failure_of NotRead = not_read_failure
+failure_of NotWritten = not_written_failure
+
 -- a listing that failed tells why, and nothing else
 abbrev pub failed_of : ℕ → Listed
 failed_of failure = record { consumed = 0; done = 0; code = 0; failure = failure }
@@ -29,6 +36,14 @@ failed_of failure = record { consumed = 0; done = 0; code = 0; failure = failure
 -- a whole one tells of the reader that its turns leave
 abbrev pub told_of : Reader → ℕ → Listed
 told_of last code = record { consumed = consumed_of last; done = last.done; code = code; failure = whole }
+
+abbrev pub totals_of : Reader → ℕ → Totals
+totals_of last code = record { consumed = consumed_of last; done = last.done; code = code }
+
+-- a result as C gets it
+abbrev pub listed_from : Result Totals Failure → Listed
+listed_from (Ok t) = record { consumed = t.consumed; done = t.done; code = t.code; failure = whole }
+listed_from (Err f) = failed_of (failure_of f)
 
 -- the same of a capture, by the whole-capture definition
 abbrev pub listed_of : List ℕ → Listed

@@ -1,20 +1,26 @@
 -- What the functions of the listing's loop promise each other: what each lays in the text that it is lent, and what a turn and the end line
 -- come to. No sentence of document 01 stands here; the call promises no more than `Lists`.
 -- Assumes nothing.
-use Rattle.std.specs.Prelude.{◌≡◌, ℕ, ◌≤◌, Bool, false, cond, ◌&&◌, List, length, take, ℤ, pos, negsuc, ◌==◌, nat_lt}
-use Rattle.std.specs.Io.KnownBytes.{Keeps, Consumes, IsAtEnd}
+use Rattle.std.specs.Prelude.{◌≡◌, ℕ, ◌≤◌, Bool, true, false, cond, ◌&&◌, List, length, take, ℤ, pos, negsuc, ◌==◌, nat_lt, Result, Ok, Err}
+use Rattle.std.specs.Io.KnownBytes.{Keeps, Appends, Consumes, IsAtEnd}
 use Rattle.std.specs.declared.option.Option.{Option}
+use Rattle.std.specs.declared.ops.ControlFlow.{ControlFlow}
+use Rattle.std.specs.declared.ops.ControlFlow.TheVariants.{Continue, Break}
 use Rattle.capture.specs.declared.Reader.{Reader}
 use Rattle.capture.specs.declared.Fed.{Fed}
 use Rattle.capture.specs.Reader.{finish_of}
 use Rattle.capture_laws.specs.Schedule.{Bytes}
 use Rattle.lines.specs.Lines.{end_line_of, Laid, Lined}
-use Rattle.lines_laws.specs.Turns.{end_room, Turn}
-use Rattle.listing_loop.specs.declared.Listed.{Listed}
-use Rattle.listing_loop.specs.declared.Part.{Part}
-use Rattle.listing_loop.specs.declared.Went.{Went}
-use Rattle.listing_loop.specs.declared.EndLine.{EndLine}
-use Rattle.listing_loop.specs.List.{whole, not_read_failure, not_written_failure, failed_of, told_of}
+use Rattle.lines_laws.specs.Turns.{Turn, End}
+use Rattle.listing_loop.specs.declared.Failure.{Failure}
+use Rattle.listing_loop.specs.declared.Failure.TheVariants.{NotRead}
+use Rattle.listing_loop.specs.declared.Totals.{Totals}
+use Rattle.listing_loop.specs.declared.PartLines.{PartLines}
+use Rattle.listing_loop.specs.declared.steps.Listed.{Listed}
+use Rattle.listing_loop.specs.declared.steps.Part.{Part}
+use Rattle.listing_loop.specs.declared.steps.Went.{Went}
+use Rattle.listing_loop.specs.declared.steps.EndLine.{EndLine}
+use Rattle.listing_loop.specs.List.{whole, not_read_failure, not_written_failure, failed_of, totals_of, told_of}
 
 -- ---- a part
 
@@ -34,11 +40,24 @@ pub record PartLaid (s : Reader) (part : List ℕ) (p : Part) (entry exit : List
   pub laid : Laid text p.size entry exit
   pub told : p ≡ part_of part r (length text)
 
+-- the reader after a part, and whether another turn may follow
+abbrev pub reader_of : ControlFlow Reader Reader → Reader
+reader_of (Continue s) = s
+reader_of (Break s) = s
+
+abbrev pub goes_of : ControlFlow Reader Reader → Bool
+goes_of (Continue s) = true
+goes_of (Break s) = false
+
+-- the same as C gets it
+abbrev pub part_from : PartLines → Part
+part_from l = record { reader = reader_of l.next; failure = whole; more = goes_of l.next; size = l.size }
+
 -- no part was read: nothing is laid
 abbrev pub not_read_of : Reader → Part
 not_read_of s = record { reader = s; failure = not_read_failure; more = false; size = 0 }
 
--- by what a read answered: below 0, that it failed; else how many bytes it put to the front of the buffer
+-- by what a read answered C: below 0, that it failed; else how many bytes it put to the front of the buffer
 pub data ReadLaid : Reader → ℤ → List ℕ → Part → List ℕ → List ℕ → Type 0 where
   no_part : {s : Reader} {n : ℕ} {buffer text : List ℕ} → ReadLaid s (negsuc n) buffer (not_read_of s) text text
   a_part : {s : Reader} {n : ℕ} {buffer entry exit : List ℕ} {p : Part} → PartLaid s (take n buffer) p entry exit
@@ -48,42 +67,41 @@ pub data ReadLaid : Reader → ℤ → List ℕ → Part → List ℕ → List �
 
 -- what a read did to the bytes that its reader has left, where those are known: it took those that it put to the front of the buffer, none only
 -- at their end; one that failed took none
-abbrev pub GotBytes : Option (List ℕ) → Option (List ℕ) → ℤ → List ℕ → Type 0
-GotBytes left after (pos n) buffer = (n ≤ length buffer) × Consumes left after (take n buffer) × (n ≡ 0 → IsAtEnd after)
-GotBytes left after (negsuc n) buffer = Keeps left after
+abbrev pub GotBytes : Option (List ℕ) → Option (List ℕ) → Result ℕ Failure → List ℕ → Type 0
+GotBytes left after (Ok n) buffer = (n ≤ length buffer) × Consumes left after (take n buffer) × (n ≡ 0 → IsAtEnd after)
+GotBytes left after (Err f) buffer = (f ≡ NotRead) × Keeps left after
 
--- the state after a part; whether another turn follows, by whether its lines were written
+-- of C: the state after a part; whether another turn follows, by whether its lines were written
 abbrev pub wrote_of : Part → Bool → Went
 wrote_of p written = record { reader = p.reader; failure = cond written p.failure not_written_failure; goes = written && p.more }
 
--- a read, what is laid of it, and what came of the write
-pub record Turned (s : Reader) (w : Went) : Type 0 where
-  pub got : ℤ
-  pub buffer : List ℕ
-  pub part : Part
-  pub blank : List ℕ
-  pub page : List ℕ
-  pub laid : ReadLaid s got buffer part blank page
-  pub written : Bool
-  pub told : w ≡ wrote_of part written
+-- a turn that did not fail: the part that it took and the text of it; of a reader and a writer whose bytes are known, `left` and `held` before it,
+-- these bytes are what it read and what it wrote
+pub record Took (s : Reader) (left after held grown : Option (List ℕ)) (next : ControlFlow Reader Reader) : Type 0 where
+  pub part : List ℕ
+  pub r : Fed
+  pub text : List ℕ
+  pub bytes : Bytes part
+  pub turn : Turn s part r text
+  pub reader : reader_of next ≡ r.reader
+  pub goes : goes_of next ≡ more_of part r
+  pub read : Consumes left after part
+  pub wrote : Appends held grown text
 
 -- ---- the end
 
--- the end line stands in front of the lent text, and the rest of that is as it was
+-- of C: the end line stands in front of the lent text, and the rest of that is as it was
 pub record EndLaid (last : Reader) (e : EndLine) (entry exit : List ℕ) : Type 0 where
   pub code : e.code ≡ finish_of last
   pub lined : Lined (end_line_of last.done (finish_of last)) e.size entry exit
 
--- the result after the end line, by whether it was written
+-- of C: the result after the end line, by whether it was written
 abbrev pub ended_of : Reader → ℕ → Bool → Listed
 ended_of last code written = cond written (told_of last code) (failed_of not_written_failure)
 
--- an end line, and what came of its write
-pub record Ended (last : Reader) (r : Listed) : Type 0 where
-  pub line : EndLine
-  pub blank : List ℕ
-  pub page : List ℕ
-  pub wide : end_room ≤ length blank
-  pub laid : EndLaid last line blank page
-  pub written : Bool
-  pub told : r ≡ ended_of last (finish_of last) written
+-- an end line that was written, behind what a writer held whose bytes are known, and what is told then
+pub record Ended (last : Reader) (held grown : Option (List ℕ)) (t : Totals) : Type 0 where
+  pub line : List ℕ
+  pub end : End last line
+  pub wrote : Appends held grown line
+  pub told : t ≡ totals_of last (finish_of last)

@@ -1,24 +1,18 @@
-use borrow.Author.Tests.{not-true, not-false}
-use Rattle.listing_loop.proofs.Loop.{succeeded, failed, begun, further, less, over}
+use Rattle.std.proofs.Common.{refl}
+use Rattle.listing_loop.proofs.Loop.{begun, failed_lists, further, less, over_lists}
 use Rattle.listing_loop.proofs.list.Goals as goal
 
-pub loop-went-init : goal.loop-went-init
-loop-went-init g c = begun c.fresh-reader.ensures
+pub loop-next-init : goal.loop-next-init
+loop-next-init g c = begun c.fresh-reader.ensures
 
-pub returns-then-went-ne-WHOLE : goal.returns-then-went-ne-WHOLE
-returns-then-went-ne-WHOLE g c = rw c.failed.ensures (failed c.turn-went.ensures c.if-went-ne-WHOLE.true)
+pub returns-in_err-next : goal.returns-in_err-next
+returns-in_err-next g c = failed_lists c.from_residual.result c.from_residual.ensures.0
 
-pub returns-then-not-went : goal.returns-then-not-went
-returns-then-not-went g c =
-    let done = succeeded c.turn-went.ensures c.if-went-ne-WHOLE.false in
-    over c.loop-went.invariant done (not-true _ c.if-not-went.true) c.end.ensures
+pub loop-next-smaller : goal.loop-next-smaller
+loop-next-smaller g c = less c.loop-next.invariant (rw c.in-Continue.is at c.in_ok-next.ensures) refl
 
-pub loop-went-smaller : goal.loop-went-smaller
-loop-went-smaller g c =
-    let done = succeeded c.turn-went.ensures c.if-went-ne-WHOLE.false in
-    less c.loop-went.invariant done (not-false _ c.if-not-went.false)
+pub loop-next-preserved : goal.loop-next-preserved
+loop-next-preserved g c = further c.loop-next.invariant (rw c.in-Continue.is at c.in_ok-next.ensures) refl
 
-pub loop-went-preserved : goal.loop-went-preserved
-loop-went-preserved g c =
-    let done = succeeded c.turn-went.ensures c.if-went-ne-WHOLE.false in
-    further c.loop-went.invariant done (not-false _ c.if-not-went.false)
+pub returns-in-Break : goal.returns-in-Break
+returns-in-Break g c = over_lists c.loop-next.invariant (rw c.in-Break.is at c.in_ok-next.ensures) refl _ _ c.end.result c.end.ensures

@@ -1,22 +1,32 @@
-use Rattle.std.proofs.Common.{arith, length-drop, take_all}
-use Rattle.std.proofs.Math.Seq.{take-add}
-use Rattle.std.proofs.lemmas.List.{take_rest}
+use Rattle.std.proofs.Common.{◌≡◌, List, ℕ, [], ◌++◌, take, drop, length, refl, sym, ap, ◌∙◌, append_assoc, take-append-drop, append-nil, arith, length-drop, eqb-true}
+use Rattle.std.proofs.lemmas.List.{take_rest, nil_from_length}
 use Rattle.std.proofs.KnownBytes.{Appends-nil, Appends-trans}
 use Rattle.listing_loop.proofs.put.Goals as goal
 
-pub loop-at-init : goal.loop-at-init
-loop-at-init g c = record { within = omega arith; bytes = Appends-nil (g.W.Write.contents c.args.output.now) }
+pub loop-rest-init : goal.loop-rest-init
+loop-rest-init g c = record { front = []; all = refl; bytes = Appends-nil (g.W.Write.contents c.args.output.now) }
 
-pub loop-at-preserved : goal.loop-at-preserved
-loop-at-preserved g c =
-    let text = c.args.text.now in
-    let at = c.loop-at.at in
+pub loop-rest-smaller : goal.loop-rest-smaller
+loop-rest-smaller g c =
+    let rest = c.loop-rest.rest.now in
     let count = c.in-Ok.count in
-    let more = rw (take_rest text at) at c.in-Ok.ensures in
-    record {
-      within = omega (arith, rw (length-drop at text) at more.bound);
-      bytes = rw (take-add at count text) (Appends-trans _ _ _ _ _ c.loop-at.invariant.bytes more.bytes);
-    }
+    rw (take_rest rest count, length-drop count rest) (omega (arith, c.if-count-gt0.true, c.in-Ok.ensures.bound))
 
-pub returns : goal.returns
-returns g c = λ _. rw (take_all c.loop-at.at c.args.text.now c.loop-at-test.false) at c.loop-at.invariant.bytes
+pub loop-rest-preserved : goal.loop-rest-preserved
+loop-rest-preserved g c =
+    let front = c.loop-rest.invariant.front in
+    let rest = c.loop-rest.rest.now in
+    let count = c.in-Ok.count in
+    rw (take_rest rest count)
+    (record {
+      front = front ++ take count rest;
+      all = append_assoc front (take count rest) (drop count rest)
+          ∙ ap (λ (xs : List ℕ). front ++ xs) (take-append-drop count rest) ∙ c.loop-rest.invariant.all;
+      bytes = Appends-trans _ _ _ _ _ c.loop-rest.invariant.bytes c.in-Ok.ensures.bytes;
+    })
+
+pub returns-clause-ok : goal.returns-clause-ok
+returns-clause-ok g c =
+    let rest = c.loop-rest.rest.now in
+    let none : rest ≡ [] = nil_from_length rest (eqb-true (length rest) 0 (sym c.is_empty.ensures ∙ c.loop-rest-test.false)) in
+    rw (sym c.loop-rest.invariant.all, none, append-nil c.loop-rest.invariant.front) c.loop-rest.invariant.bytes
