@@ -1,4 +1,5 @@
 // The listing in steps, for a caller from C that reads and writes by itself: what C gets and gives back, and all between a read and a write.
+// Kept: the C interface (c/list.c, include/lm89_list.h) has these structs, their failures as numbers and their flags.
 ghost use Rattle.std.specs.Prelude.{◌≡◌, ◌≤◌, length};
 ghost use Rattle.lines_laws.specs.Turns.{read_most, text_room};
 ghost use Rattle.listing_loop.specs.List.{failure_of, failed_of, listed_from};
@@ -8,7 +9,7 @@ use super::{END_ROOM, Failure, PartLines, READ_MOST, TEXT_ROOM, Totals, lay_part
 use capture::Reader;
 use std::ops::ControlFlow;
 
-// Kept: C gets a failure as a number, and 0 where there is none.
+// The number of a failure where there is none.
 const WHOLE: u8 = 0;
 
 impl From<Failure> for u8 {

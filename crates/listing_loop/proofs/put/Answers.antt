@@ -1,10 +1,8 @@
-use Rattle.std.proofs.Common.{◌≡◌, List, ℕ, [], ◌++◌, take, drop, length, refl, sym, ap, ◌∙◌, append_assoc, take-append-drop, append-nil, arith, length-drop, eqb-true}
+use Rattle.std.proofs.Common.{◌≡◌, List, ℕ, [], ◌++◌, take, drop, length}
+use Rattle.std.proofs.Common.{sym, ap, ◌∙◌, append_assoc, take-append-drop, append-nil, arith, length-drop, eqb-true}
 use Rattle.std.proofs.lemmas.List.{take_rest, nil_from_length}
-use Rattle.std.proofs.KnownBytes.{Appends-nil, Appends-trans}
+use Rattle.std.proofs.KnownBytes.{Appends-trans}
 use Rattle.listing_loop.proofs.put.Goals as goal
-
-pub loop-rest-init : goal.loop-rest-init
-loop-rest-init g c = record { front = []; all = refl; bytes = Appends-nil (g.W.Write.contents c.args.output.now) }
 
 pub loop-rest-smaller : goal.loop-rest-smaller
 loop-rest-smaller g c =
