@@ -12,6 +12,7 @@ pub mod outputs;
 pub mod ranges;
 
 // The fourteen settings stand in rising order of their write addresses; `low` is the byte kept at a read of 01, if one is.
+// Kept: the C interface (struct lm89_device) has these fields, with the variant as a number and `lowkept` beside `low`.
 #[repr(C)]
 #[derive(Clone, Copy, Default, PartialEq, Eq)]
 pub struct Device {
@@ -26,6 +27,7 @@ pub struct Device {
 }
 
 // Address, register and value; local byte, remote high and low byte: raw, as in a record. The last two are conversions of a bus's second device.
+// Kept: 08 and 09 are kinds of their own in the table of kinds, by which the definitions (effect_of, second_of) go.
 #[derive(Clone, Copy, PartialEq, Eq)]
 pub enum Event {
     Write(u8, u8, u8),
@@ -40,6 +42,7 @@ pub enum Event {
 }
 
 // What an event asks of the device at hand. Sense: local byte, remote reading in eighths and whether it was held (a struct in the enum is slower), diode open.
+// Kept as a switch: each large function has one call site so, and is inlined there; with a call in each event's arm a record takes up to three times as long.
 #[derive(Clone, Copy)]
 pub enum Asked {
     Put(u8, u8),
@@ -52,6 +55,7 @@ pub enum Asked {
 }
 
 // What an event does: a conversion taken, its reading held; the device after it; acknowledged, and the byte read or 0. In the fastest order.
+// Kept as flags: bits D2 to D4 of the first answer byte are these three, and the laws of held readings (shows_held) speak of each.
 #[derive(Clone, Copy)]
 pub struct Outcome {
     pub taken: bool,
@@ -117,6 +121,7 @@ fn done(d: Device, asked: Asked) -> Outcome
 }
 
 // What the event does to the device, whatever their values.
+#[tactic(auto, using(crate::proofs::Asking::asked_done))]
 pub fn effect(d: Device, e: Event) -> Outcome
     ensures { result ≡ effect_of d e }
 {
