@@ -82,7 +82,8 @@ module _ (d : Device) (read : List Event) where
   unfolding back_of
   back_none = refl
 
-refusal_code : (why : Refusal) → code_of (Err why) ≡ 0 → ⊥
+-- a refusal's code is not 0
+pub refusal_code : (why : Refusal) → code_of (Err why) ≡ 0 → ⊥
 unfolding code_of
 refusal_code Kind e = absurd (omega arith)
 refusal_code Operand e = absurd (omega arith)

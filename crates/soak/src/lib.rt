@@ -31,6 +31,7 @@ pub enum Refusal {
 }
 
 // What C gets: a code, whether T_CRIT_A is pulled, and how many records were read, a refused one among them.
+// Kept: the C interface (struct lm89_soaked) has these fields.
 #[repr(C)]
 #[derive(Clone, Copy)]
 pub struct Soaked {
@@ -122,6 +123,7 @@ impl Made {
 }
 
 // What they make of it on each channel; on the remote one by the earlier fault count, 2 and 3 alike: a further fault makes 3 of both.
+// Kept as three fields: an array of them is no plainer, since 2 and 3 have one place.
 #[derive(Clone, Copy)]
 pub struct Ends {
     pub local: Made,
@@ -228,6 +230,7 @@ fn readings(s: [u8; 14], quad: [u8; 4]) -> Result<(u8, i16), record::Refusal>
     ensures { result ≡ readings_of s (quad_in quad) }
 {
     let [kind, a, b, c] = quad;
+    // Kept as numbers: with Kind::try_from a record takes a quarter more time.
     if (kind != Kind::Convert as u8) & (kind != Kind::Open as u8) {
         return Err(record::Refusal::Kind);
     }

@@ -21,10 +21,10 @@ use Rattle.record.specs.Record.{code_of}
 use Rattle.record.specs.Fours.{Quad}
 use Rattle.soak.specs.declared.Soaked.{Soaked}
 use Rattle.soak.specs.Soak.{met_of, latest_first, both_decided, back_of, soak_of}
-use Rattle.soak.proofs.Loop.{valid, back_refused, back_met}
+use Rattle.soak.proofs.Loop.{valid, refusal_code, back_refused, back_met}
 use Rattle.soak_laws.specs.Stretch.{AllConversions, Meets, Readable, RefusedAt, Gives}
 use Rattle.soak_laws.specs.Stretch.Gives.{state, asleep, uneven, kind, operand, answered}
-use Rattle.soak_laws.proofs.Ways.{by_record, valid_code, refusal_code, back_ind, onto, onto_met_lem}
+use Rattle.soak_laws.proofs.Ways.{by_record, valid_code, back_ind, onto, onto_met_lem}
 use Rattle.soak_laws.proofs.FullRun.{reads_back}
 use Rattle.soak_laws.proofs.Reading.{fewer, soak_ind, is_too_few, too_few_so}
 

@@ -20,10 +20,10 @@ use Rattle.record.specs.Fours.{Quad, quads, event_then, events_in}
 use Rattle.soak.specs.declared.Soaked.{Soaked}
 use Rattle.soak.specs.Soak.{Running, met_of, latest_first, both_decided, back_of, soak_of}
 use Rattle.soak.proofs.Runs.{AllConvert, converts, met_read, step_running, running_after, settings_after}
-use Rattle.soak.proofs.Loop.{valid}
+use Rattle.soak.proofs.Loop.{valid, refusal_code}
 use Rattle.soak_laws.specs.Stretch.{Whole, AllConversions, events_of, last_first}
 use Rattle.soak_laws.proofs.Decided.{of_both, pin_any}
-use Rattle.soak_laws.proofs.Ways.{refusal_code, back_ind, onto, onto_met_lem, onto_events, onto_convert, after_joined, front}
+use Rattle.soak_laws.proofs.Ways.{back_ind, onto, onto_met_lem, onto_events, onto_convert, after_joined, front}
 
 -- ---- where nothing is refused before a record is read
 

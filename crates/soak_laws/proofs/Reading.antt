@@ -26,10 +26,11 @@ use Rattle.soak.specs.declared.Soaked.{Soaked}
 use Rattle.soak.specs.Soak.{Running, met_of, latest_first, Decided, decided_of, both_decided, refuses_of, answers_of, back_of, soak_of}
 use Rattle.soak.specs.Ends.{decided_by}
 use Rattle.soak.proofs.Runs.{running, AllConvert}
+use Rattle.soak.proofs.Loop.{refusal_code}
 use Rattle.soak.proofs.Tables.{ends_by, decided_is}
 use Rattle.soak_laws.specs.Stretch.{Whole, AllConversions, latest_records, latest, BothDecided, Enough, TooFew, Readable}
 use Rattle.soak_laws.proofs.Decided.{exactly, of_both, both, one_open, pin_any}
-use Rattle.soak_laws.proofs.Ways.{valid_code, refusal_code, back_ind, onto, onto_met_lem, onto_events, onto_convert}
+use Rattle.soak_laws.proofs.Ways.{valid_code, back_ind, onto, onto_met_lem, onto_events, onto_convert}
 use Rattle.soak_laws.proofs.FullRun.{reads_back}
 
 -- ---- the reading

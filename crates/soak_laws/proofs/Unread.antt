@@ -21,11 +21,11 @@ use Rattle.record.specs.Fours.{Quad, quads}
 use Rattle.soak.specs.declared.Soaked.{Soaked}
 use Rattle.soak.specs.Soak.{met_of, latest_first, both_decided, back_of, soak_of}
 use Rattle.soak.proofs.Runs.{running}
-use Rattle.soak.proofs.Loop.{back_none, back_decided, back_refused, back_met}
+use Rattle.soak.proofs.Loop.{refusal_code, back_none, back_decided, back_refused, back_met}
 use Rattle.soak_laws.specs.Stretch.{Whole, AllConversions, events_of, Readable, Stops}
 use Rattle.soak_laws.specs.Stretch.Stops.{refuses, decides}
 use Rattle.soak_laws.proofs.Decided.{both}
-use Rattle.soak_laws.proofs.Ways.{by_record, valid_code, refusal_code, onto, onto_met_lem, onto_length, onto_convert, latest_joined}
+use Rattle.soak_laws.proofs.Ways.{by_record, valid_code, onto, onto_met_lem, onto_length, onto_convert, latest_joined}
 use Rattle.soak_laws.proofs.FullRun.{reads_back, whole_events, all_latest}
 use Rattle.soak_laws.proofs.Reading.{counts}
 

@@ -15,13 +15,12 @@ use Rattle.device.specs.Run.{after_of}
 use Rattle.record.specs.Record.{Record}
 use Rattle.std.specs.Prelude.{Ok, Err}
 use Rattle.record.specs.declared.refusal.Refusal.{Refusal}
-use Rattle.record.specs.declared.refusal.Refusal.TheVariants.{Kind, Operand}
 use Rattle.record.specs.Record.{code_of}
 use Rattle.record.specs.Fours.{Quad, quads, quad_of, event_then, events_in}
 use Rattle.soak.specs.declared.Soaked.{Soaked}
 use Rattle.soak.specs.Soak.{met_of, latest_first, both_decided, refuses_of, answers_of, back_of}
 use Rattle.soak.proofs.Runs.{AllConvert, converts, met_read}
-use Rattle.soak.proofs.Loop.{valid, back_none, back_decided, back_refused, back_met}
+use Rattle.soak.proofs.Loop.{valid, refusal_code, back_none, back_decided, back_refused, back_met}
 use Rattle.soak_laws.specs.Stretch.{Whole, AllConversions}
 
 -- ---- a record
@@ -29,12 +28,6 @@ use Rattle.soak_laws.specs.Stretch.{Whole, AllConversions}
 pub by_record : {P : Type 0} (r : Record) → ((e : Event) → r ≡ Ok e → P) → ((why : Refusal) → r ≡ Err why → P) → P
 by_record (Ok e) f g = f e refl
 by_record (Err why) f g = g why refl
-
--- a refusal's code is not 0
-pub refusal_code : (why : Refusal) → code_of (Err why) ≡ 0 → ⊥
-unfolding code_of
-refusal_code Kind e = absurd (omega arith)
-refusal_code Operand e = absurd (omega arith)
 
 pub valid_code : (e : Event) → code_of (Ok e) ≡ 0
 unfolding code_of
