@@ -1,14 +1,16 @@
 -- The lines of a call's answers, laid one behind another: what is known between two of them, `Going`, and the ways on and out.
 -- Assumes nothing.
-use Rattle.std.proofs.Common.{◌≡◌, ℕ, suc, ◌+◌, ◌-◌, ◌<◌, ◌≤◌, Bool, cond, leb, List, [], ◌∷◌, ◌++◌, length, get_or, take, drop, sym, refl, ap, ◌∙◌}
-use Rattle.std.proofs.Common.{append_assoc, append-nil, le_refl, arith, length-append, length-drop, take-append-drop, length-take-le, drop-cons, drop-drop}
+use Rattle.std.proofs.Common.{◌≡◌, ℕ, zero, suc, ◌+◌, ◌-◌, ◌*◌, ◌/◌, ◌<◌, ◌≤◌, Bool, true, false, cond, leb}
+use Rattle.std.proofs.Common.{List, [], ◌∷◌, ◌++◌, length, get_or, take, drop, sym, refl, ap, ◌∙◌}
+use Rattle.std.proofs.Common.{append_assoc, append-nil, le_refl, arith, length-append, length-drop, take-append-drop, length-take-le, drop-drop}
 use Rattle.std.proofs.Common.{take_at, drop_at, le-leb, leb-false, leb-true}
+use Rattle.std.specs.Simd.{first_chunks}
 use native.Mathlib.Nat.{sub-zero}
 use borrow.Rule.Slice.PartMut.{put_mid, same_len_mid, mid_len}
 use borrow.Author.Tests.{lt-leb}
 use Rattle.laws.proofs.Buffers.{laid}
-use Rattle.laws.proofs.Choices.{by_test}
-use Rattle.lines.specs.Lines.{pair_of, decimal_of, line_of, next_of, fitting_of, fitting_lines_of, Laid, Lined}
+use Rattle.laws.proofs.Choices.{clash, by_test}
+use Rattle.lines.specs.Lines.{line_of, next_of, fitting_of, fitting_lines_of, Laid, Lined}
 use Rattle.lines.proofs.Layers.{fitting_short, same_room}
 
 -- ---- the definition, a line at a time
@@ -88,70 +90,70 @@ laid_on {text} {entry} {room} {last} {next} {todo} {size} {count} g p h =
 
 -- ---- a line more
 
-two_first : (answers : List ℕ) (i : ℕ) → 2 ≤ length answers - i → drop i answers ≡ get_or answers i 0 ∷ get_or answers (i + 1) 0 ∷ drop (i + 2) answers
-two_first answers i h =
-    let one : i + 1 ≡ suc i = omega arith in
-    let two : i + 2 ≡ suc (suc i) = omega arith in
-    drop-cons answers i 0 (omega arith) ∙ rw (one, two, drop-cons answers (suc i) 0 (omega arith)) refl
+-- answer 0 or 1 of a pair
+abbrev answer_at : List (List ℕ) → ℕ → ℕ → ℕ
+answer_at pairs i k = get_or (get_or pairs i []) k 0
 
-module _ {text entry room last : List ℕ} {size count : ℕ} (answers : List ℕ) (n i : ℕ)
-    (g : Going text entry room size (fitting_lines_of (length entry - size) n (drop i answers)))
-    (two : 2 ≤ length answers - i)
-    (p : Lined (line_of n (get_or answers i 0) (get_or answers (i + 1) 0)) count (take (length room - size) (drop size room)) last) where
+-- the answers from a pair on: its two, and those behind it
+chunk_first : (m : ℕ) (answers : List ℕ) (i : ℕ) → m * 2 ≤ length answers → i < m
+    → drop (i * 2) answers ≡ answer_at (first_chunks 2 m answers) i 0 ∷ answer_at (first_chunks 2 m answers) i 1 ∷ drop ((i + 1) * 2) answers
+chunk_first zero answers i h k = absurd (omega arith)
+chunk_first (suc m) [] i h k = absurd (omega arith)
+chunk_first (suc m) (a ∷ []) i h k = absurd (omega arith)
+chunk_first (suc m) (a ∷ b ∷ rest) zero h k = refl
+chunk_first (suc m) (a ∷ b ∷ rest) (suc i) h k =
+    let here : suc i * 2 ≡ suc (suc (i * 2)) = omega arith in
+    let next : (suc i + 1) * 2 ≡ suc (suc ((i + 1) * 2)) = omega arith in
+    rw (here, next) (chunk_first m rest i (omega arith) (omega arith))
+
+module _ {text entry room last : List ℕ} {size count : ℕ} (answers : List ℕ) {pairs : List (List ℕ)} (n i : ℕ)
+    (chunks : pairs ≡ first_chunks 2 (length answers / 2) answers)
+    (here : i < length answers / 2)
+    (g : Going text entry room size (fitting_lines_of (length entry - size) n (drop (i * 2) answers)))
+    (p : Lined (line_of n (answer_at pairs i 0) (answer_at pairs i 1)) count (take (length room - size) (drop size room)) last) where
   abbrev line : List ℕ
-  line = line_of n (get_or answers i 0) (get_or answers (i + 1) 0)
+  line = line_of n (answer_at pairs i 0) (answer_at pairs i 1)
+
+  pair_first : drop (i * 2) answers ≡ answer_at pairs i 0 ∷ answer_at pairs i 1 ∷ drop ((i + 1) * 2) answers
+  pair_first = rw chunks (chunk_first (length answers / 2) answers i (omega arith) here)
 
   room_left : length (take (length room - size) (drop size room)) ≡ length entry - size
   room_left = mid_len size (length room) room (le_refl (length room)) ∙ ap (λ (k : ℕ). k - size) g.long
 
-  -- a line is not empty, so that 0 says that it does not fit
-  fits : (count ≡ 0 → ⊥) → length line ≤ length entry - size
-  fits f =
-      by_test (leb (length line) (length entry - size)) (λ h. leb-true (length line) (length entry - size) h)
-      (λ h. absurd (f (rw (room_left, h) at p.told)))
-
-  fits_not : count ≡ 0 → length entry - size < length line
-  fits_not z =
-      by_test (leb (length line) (length entry - size))
-      (λ h. absurd (some (sym z ∙ (rw (room_left, h) at p.told))))
-      (λ h. leb-false (length line) (length entry - size) h)
-    where
-      some : 0 ≡ length line → ⊥
-      some e =
-          let l : length line ≡ length (decimal_of n) + 7 = length-append (decimal_of n) (pair_of (get_or answers i 0) (get_or answers (i + 1) 0)) in
-          omega arith
-
-  laid_next : (todo : List ℕ) → fitting_lines_of (length entry - size) n (drop i answers) ≡ fitting_of line (length entry - size) ++ todo
+  laid_next : (todo : List ℕ) → fitting_lines_of (length entry - size) n (drop (i * 2) answers) ≡ fitting_of line (length entry - size) ++ todo
       → Going text entry (put_mid size (length room - size) room last) (size + count) todo
   laid_next todo e =
       laid_on (rw e at g) (rw room_left at p) (let k = fitting_short line (length entry - size) in let l = g.long in omega arith)
 
-  pub line_more : (count ≡ 0 → ⊥)
+  pub line_more : (length (take (length room - size) (drop size room)) < length line → true ≡ false)
       → Going text entry (put_mid size (length room - size) room last) (size + count)
-      (fitting_lines_of (length entry - (size + count)) (next_of n) (drop (i + 2) answers))
+      (fitting_lines_of (length entry - (size + count)) (next_of n) (drop ((i + 1) * 2) answers))
   line_more f =
-      let h = fits f in
+      let h : length line ≤ length entry - size =
+      by_test (leb (length line) (length entry - size)) (λ t. leb-true _ _ t)
+      (λ t. clash (sym (f (rw room_left (leb-false (length line) (length entry - size) t))))) in
       let fitting : fitting_of line (length entry - size) ≡ line = ap (λ (t : Bool). cond t line []) (le-leb (length line) (length entry - size) h) in
       let told : count ≡ length line = p.told ∙ ap (λ (k : ℕ). length (fitting_of line k)) room_left ∙ ap length fitting in
       let left : length entry - size - length line ≡ length entry - (size + count) = omega arith in
-      laid_next (fitting_lines_of (length entry - (size + count)) (next_of n) (drop (i + 2) answers))
-      (ap (fitting_lines_of (length entry - size) n) (two_first answers i two)
-      ∙ lines_on (length entry - size) n (get_or answers i 0) (get_or answers (i + 1) 0) (drop (i + 2) answers) h
+      laid_next (fitting_lines_of (length entry - (size + count)) (next_of n) (drop ((i + 1) * 2) answers))
+      (ap (fitting_lines_of (length entry - size) n) (pair_first)
+      ∙ lines_on (length entry - size) n (answer_at pairs i 0) (answer_at pairs i 1) (drop ((i + 1) * 2) answers) h
       ∙ rw (fitting, left) refl)
 
-  pub no_more : count ≡ 0 → Laid text size entry (put_mid size (length room - size) room last)
-  no_more z =
-      let h = fits_not z in
+  pub no_more : length (take (length room - size) (drop size room)) < length line → Laid text size entry (put_mid size (length room - size) room last)
+  no_more f =
+      let h : length entry - size < length line = omega (arith, room_left) in
       let fitting : fitting_of line (length entry - size) ≡ [] = ap (λ (t : Bool). cond t line []) (lt-leb (length line) (length entry - size) h) in
+      let none : count ≡ 0 = p.told ∙ ap (λ (k : ℕ). length (fitting_of line k)) room_left ∙ ap length fitting in
       let same : size + count ≡ size = omega arith in
       let g : Going text entry (put_mid size (length room - size) room last) (size + count) [] = laid_next []
-      (ap (fitting_lines_of (length entry - size) n) (two_first answers i two)
-      ∙ lines_full (length entry - size) n (get_or answers i 0) (get_or answers (i + 1) 0) (drop (i + 2) answers) h
+      (ap (fitting_lines_of (length entry - size) n) (pair_first)
+      ∙ lines_full (length entry - size) n (answer_at pairs i 0) (answer_at pairs i 1) (drop ((i + 1) * 2) answers) h
       ∙ rw fitting refl) in
       finished (rw same at g)
 
--- fewer than two answers are left
-pub no_pair : {text entry room : List ℕ} {size : ℕ} (answers : List ℕ) (n i : ℕ)
-    → Going text entry room size (fitting_lines_of (length entry - size) n (drop i answers)) → length answers - i < 2 → Laid text size entry room
-no_pair {entry = entry} {size = size} answers n i g h =
-    finished (rw (lines_end (length entry - size) n (drop i answers) (simp length-drop (omega arith))) at g)
+-- no pair is left
+pub no_pair : {text entry room : List ℕ} {size : ℕ} (answers : List ℕ) (n i : ℕ) → length answers / 2 ≤ i
+    → Going text entry room size (fitting_lines_of (length entry - size) n (drop (i * 2) answers)) → Laid text size entry room
+no_pair {entry = entry} {size = size} answers n i h g =
+    finished (rw (lines_end (length entry - size) n (drop (i * 2) answers) (simp length-drop (omega arith))) at g)

@@ -1,7 +1,10 @@
--- `decimal`: `decimal_of` writes a number below 10^10 in decimal. And leading zeros counted one by one.
+-- `decimal`: `decimal_of` writes a number below 10^10 in decimal. And `decimal_same`: as std's `{}` does.
 -- Assumes nothing.
 use Rattle.std.proofs.Common.{◌≡◌, ℕ, zero, suc, ◌+◌, ◌-◌, ◌*◌, ◌/◌, ◌<◌, ◌≤◌, eqb, List, [], ◌∷◌, map, length, get_or, drop, sym, refl, ap, ◌∙◌}
-use Rattle.std.proofs.Common.{div-add-mod', add-one, arith, length-drop, drop-cons, eq-eqb, ne_eqb, eqb-true}
+use Rattle.std.proofs.Common.{◌^◌, rules, div-add-mod', add-one, arith, length-drop, eq-eqb, ne_eqb, eqb-true}
+use Rattle.std.specs.Fmt.{decimal as std_decimal}
+use Rattle.std.proofs.lemmas.Fmt.{decimal-digits_value}
+use Rattle.std.proofs.lemmas.Str.Parse.{IsNumeralModel, numerals_by_fold}
 use native.Mathlib.Nat.{div-div-eq-div-mul}
 use borrow.Author.Tests.{eqb-false}
 use Rattle.laws.proofs.Choices.{by_test}
@@ -24,28 +27,13 @@ zeros_short [] h = refl
 zeros_short (d ∷ []) h = refl
 zeros_short (d ∷ e ∷ digits) h = absurd (omega arith)
 
-pub zeros_within : (digits : List ℕ) → zeros_of digits ≤ length digits
-zeros_within [] = omega (arith, zeros_short [] (omega arith))
-zeros_within (d ∷ []) = omega (arith, zeros_short (d ∷ []) (omega arith))
-zeros_within (d ∷ e ∷ digits) =
-    by_test (eqb d 48) (λ t. omega (arith, zeros_some d e digits (eqb-true d 48 t), zeros_within (e ∷ digits)))
+-- the last digit stands
+zeros_within : (digits : List ℕ) → 0 < length digits → zeros_of digits < length digits
+zeros_within [] h = absurd (omega arith)
+zeros_within (d ∷ []) h = omega (arith, zeros_short (d ∷ []) (omega arith))
+zeros_within (d ∷ e ∷ digits) h =
+    by_test (eqb d 48) (λ t. omega (arith, zeros_some d e digits (eqb-true d 48 t), zeros_within (e ∷ digits) (omega arith)))
     (λ t. omega (arith, zeros_none d e digits (eqb-false d 48 t)))
-
--- one after another, from z on
-module _ (digits : List ℕ) (z : ℕ) where
-  two_first : z + 1 < length digits → drop z digits ≡ get_or digits z 0 ∷ get_or digits (z + 1) 0 ∷ drop (suc (z + 1)) digits
-  two_first h = drop-cons digits z 0 (omega arith) ∙ rw (add-one z, drop-cons digits (suc z) 0 (omega arith)) refl
-
-  pub one_zero : z + 1 < length digits → get_or digits z 0 ≡ 48 → zeros_of (drop z digits) ≡ zeros_of (drop (z + 1) digits) + 1
-  one_zero h e =
-      ap zeros_of (two_first h) ∙ zeros_some (get_or digits z 0) (get_or digits (z + 1) 0) (drop (suc (z + 1)) digits) e
-      ∙ ap (λ (l : List ℕ). zeros_of l + 1) (sym (drop-cons digits (z + 1) 0 h))
-
-  pub no_zero : z + 1 < length digits → (get_or digits z 0 ≡ 48 → ⊥) → zeros_of (drop z digits) ≡ 0
-  no_zero h n = ap zeros_of (two_first h) ∙ zeros_none (get_or digits z 0) (get_or digits (z + 1) 0) (drop (suc (z + 1)) digits) n
-
-  pub last_stands : length digits ≤ z + 1 → zeros_of (drop z digits) ≡ 0
-  last_stands h = zeros_short (drop z digits) (simp length-drop (omega arith))
 
 -- ---- read back
 
@@ -112,3 +100,16 @@ decimal n h =
       value = zeros_value (ten_digits n) ∙ ten_value n h;
       leading = zeros_leading (ten_digits n);
     }
+
+-- ---- what std writes
+
+own : IsNumeralModel Digits (read_of 0)
+own = numerals_by_fold Digits (search rules) read_of (search rules)
+
+pub decimal_same : (n : ℕ) → n < 2 ^ 32 → std_decimal n ≡ decimal_of n
+decimal_same n h =
+    let digits = decimal_of n in
+    let written = decimal n (omega arith) in
+    let some : 0 < length digits = let z = zeros_within (ten_digits n) (omega arith) in simp length-drop (omega arith) in
+    let one : get_or digits 0 0 ≡ 48 → length digits ≡ 1 = λ z. ap length (written.leading z) in
+    sym (ap std_decimal written.value) ∙ decimal-digits_value own digits written.each some one (omega (arith, written.value))

@@ -1,93 +1,47 @@
--- Bytes laid behind one another at the front of a buffer, and that a line's promise has one answer: `one_line`.
+-- Bytes laid behind one another at the front of a buffer, and that a line's promise has one answer: `one_line`, `one_option`.
 -- Assumes nothing.
-use Rattle.std.proofs.Common.{◌≡◌, ℕ, ◌+◌, ◌-◌, ◌<◌, ◌≤◌, Bool, cond, leb, List, [], ◌++◌, length, take, drop, sym, refl, ap, ◌∙◌, subst, append_assoc}
-use Rattle.std.proofs.Common.{arith, length-append, length-drop, take_all, drop-drop, take_at, drop_at, le-leb, leb-true}
-use borrow.Rule.Slice.PartMut.{put_mid}
-use borrow.Author.Tests.{lt-leb}
-use Rattle.laws.proofs.Choices.{cond_ind}
-use Rattle.lines.proofs.Decimals.{zeros_within}
-use Rattle.lines.specs.Lines.{zeros_of, ten_digits, decimal_of, fitting_of, Laid, Lined}
+use Rattle.std.proofs.Common.{◌≡◌, ℕ, ◌+◌, ◌-◌, ◌<◌, ◌≤◌, Bool, cond, leb, List, [], ◌++◌, length, drop, sym, refl, ap, ◌∙◌, subst, append_assoc}
+use Rattle.std.proofs.Common.{arith, length-append, length-drop, drop-drop, le-leb, leb-true}
+use Rattle.std.specs.Prelude.{Option, Some, None, unwrap_or, IsNone, ◌↔◌}
+use Rattle.laws.proofs.Choices.{clash, cond_ind}
+use Rattle.lines.specs.Lines.{fitting_of, Laid, Lined}
 
--- ---- layers
+-- ---- a line that fits
 
--- behind a layer of n bytes, the next one
-pub next_layer : (entry layer l last src : List ℕ) (n k : ℕ) → length layer ≡ n → k ≡ length src → l ≡ layer ++ drop (length layer) entry → last ≡ src
-    → put_mid n k l last ≡ (layer ++ src) ++ drop (length (layer ++ src)) entry
-next_layer entry layer l last src n k m h e f =
-    let t : take n l ≡ layer = ap (take n) e ∙ take_at layer (drop (length layer) entry) n m in
-    let d : drop n l ≡ drop (length layer) entry = ap (drop n) e ∙ drop_at layer (drop (length layer) entry) n m in
-    rw (f, h, t, d) (sym (append_assoc layer src (drop (length src) (drop (length layer) entry)))
-    ∙ ap (λ (x : List ℕ). (layer ++ src) ++ x) (drop-drop (length src) (length layer) entry ∙ ap (λ (x : ℕ). drop x entry) (sym (length-append layer src))))
+written : (line entry : List ℕ) {exit : List ℕ} → length line ≤ length entry → exit ≡ line ++ drop (length line) entry → Lined line (length line) entry exit
+written line entry h e =
+    let fits : fitting_of line (length entry) ≡ line = ap (λ (b : Bool). cond b line []) (le-leb (length line) (length entry) h) in
+    record { told = sym (ap length fits); buffer = e ∙ sym (ap (λ (x : List ℕ). x ++ drop (length x) entry) fits) }
 
--- ---- the ways out
-
-module _ (line entry : List ℕ) where
-  told_by : {fitting : List ℕ} → fitting_of line (length entry) ≡ fitting → {exit : List ℕ} → exit ≡ fitting ++ drop (length fitting) entry
-      → Lined line (length fitting) entry exit
-  told_by f e = record { told = sym (ap length f); buffer = e ∙ sym (ap (λ (x : List ℕ). x ++ drop (length x) entry) f) }
-
-  pub too_long : length entry < length line → Lined line 0 entry entry
-  too_long h = told_by {fitting = []} (ap (λ (b : Bool). cond b line []) (lt-leb (length line) (length entry) h)) refl
-
-  pub written : {exit : List ℕ} → length line ≤ length entry → exit ≡ line ++ drop (length line) entry → Lined line (length line) entry exit
-  written h e = told_by (ap (λ (b : Bool). cond b line []) (le-leb (length line) (length entry) h)) e
-
--- a word, a number and a tail, of n with z leading zeros among its ten digits
-module _ (word tail entry : List ℕ) (n : ℕ) {digits : List ℕ} {z : ℕ} (ten : digits ≡ ten_digits n) (zeros : z ≡ zeros_of digits) where
-  abbrev line : List ℕ
-  line = word ++ (decimal_of n ++ tail)
-
-  pub at_most_ten : z ≤ 10
-  at_most_ten = let k = zeros_within digits in let l = ap length ten in omega arith
-
-  number_length : length (decimal_of n) ≡ 10 - z
-  number_length = rw (zeros, ten) (length-drop (zeros_of (ten_digits n)) (ten_digits n))
-
-  line_length : length line ≡ length word + (10 - z) + length tail
-  line_length =
-      let a : length line ≡ length word + length (decimal_of n ++ tail) = length-append word (decimal_of n ++ tail) in
-      let b : length (decimal_of n ++ tail) ≡ length (decimal_of n) + length tail = length-append (decimal_of n) tail in
-      let c = number_length in
-      omega arith
-
-  pub no_word : length entry < length word → Lined line 0 entry entry
-  no_word h = let k = line_length in too_long line entry (omega arith)
-
-  pub no_number : length entry - length word < 10 - z → Lined line 0 entry entry
-  no_number h = let k = line_length in too_long line entry (omega arith)
-
-  pub no_tail : length entry - (length word + (10 - z)) < length tail → Lined line 0 entry entry
-  no_tail h = let k = line_length in too_long line entry (omega arith)
-
-  pub all_three : {first last last' : List ℕ} → length word ≤ length entry → 10 - z ≤ length entry - length word
-      → length tail ≤ length entry - (length word + (10 - z))
-      → first ≡ word
-      → last ≡ take (10 - z) (drop z digits)
-      → last' ≡ tail
-      → (let b : ℕ = length word + (10 - z) in
-      let m : List ℕ = put_mid (length word) (b - length word) (first ++ drop (length word) entry) last in
-      Lined line (b + length tail) entry (put_mid b (b + length tail - b) m last'))
-  all_three {first} {last} {last'} h i j e f g =
-      let middle : List ℕ = take (10 - z) (drop z digits) in
-      let b : ℕ = length word + (10 - z) in
-      let l : List ℕ = first ++ drop (length word) entry in
-      let m : List ℕ = put_mid (length word) (b - length word) l last in
-      let number : middle ≡ decimal_of n
-      = rw (zeros, ten) (take_all (10 - zeros_of (ten_digits n)) (decimal_of n) (simp length-drop (omega arith))) in
-      let wide : length middle ≡ 10 - z = ap length number ∙ number_length in
-      let long : length (word ++ middle) ≡ b = length-append word middle ∙ ap (λ (k : ℕ). length word + k) wide in
-      let second : m ≡ (word ++ middle) ++ drop (length (word ++ middle)) entry
-      = next_layer entry word l last middle (length word) (b - length word) refl (omega arith)
-      (ap (λ (x : List ℕ). x ++ drop (length word) entry) e) f in
-      let third = next_layer entry (word ++ middle) m last' tail b (b + length tail - b) long (omega arith) second g in
-      let same : (word ++ middle) ++ tail ≡ line = append_assoc word middle tail ∙ ap (λ (x : List ℕ). word ++ (x ++ tail)) number in
-      let k = line_length in
-      subst (λ (count : ℕ). Lined line count entry (put_mid b (b + length tail - b) m last')) k
-      (written line entry (omega arith) (third ∙ ap (λ (x : List ℕ). x ++ drop (length x) entry) same))
+-- a word, a number and a tail, one behind another, in front of what was behind them
+pub all_three : (word number tail entry : List ℕ) {digits first second third behind behind' behind'' : List ℕ}
+    → digits ≡ number → first ≡ word → second ≡ digits → third ≡ tail
+    → behind ≡ drop (length word) entry → behind' ≡ drop (length digits) behind → behind'' ≡ drop (length tail) behind'
+    → length behind + length word ≡ length entry → length behind' + length digits ≡ length behind → length behind'' + length tail ≡ length behind'
+    → Lined (word ++ (number ++ tail)) (length word + length digits + length tail) entry (first ++ (second ++ (third ++ behind'')))
+all_three word number tail entry {digits} {first} {second} {third} {behind} {behind'} {behind''} e a b c f g h i j k =
+    let line : List ℕ = word ++ (number ++ tail) in
+    let long : length line ≡ length word + length digits + length tail
+    = length-append word (number ++ tail) ∙ rw (length-append number tail, e) (omega arith) in
+    let rest : behind'' ≡ drop (length line) entry
+    = rw (h, g, f, drop-drop (length digits) (length word) entry, drop-drop (length tail) (length word + length digits) entry, long) refl in
+    let same : first ++ (second ++ (third ++ behind'')) ≡ line ++ drop (length line) entry
+    = rw (a, b, c, e, append_assoc word (number ++ tail), append_assoc number tail, rest) refl in
+    subst (λ (count : ℕ). Lined line count entry (first ++ (second ++ (third ++ behind'')))) long (written line entry (omega arith) same)
 
 -- two results that meet the promise are equal, and so are their buffers
 pub one_line : {text entry exit exit' : List ℕ} {m n : ℕ} → Laid text m entry exit → Laid text n entry exit' → (m ≡ n) × (exit ≡ exit')
 one_line p q = (p.told ∙ sym q.told, p.buffer ∙ sym q.buffer)
+
+-- and so for a line that is there or has no room
+pub one_option : (line entry : List ℕ) {exit exit' : List ℕ} (r s : Option ℕ)
+    → Lined line (unwrap_or r 0) entry exit → IsNone r ↔ (length entry < length line)
+    → Lined line (unwrap_or s 0) entry exit' → IsNone s ↔ (length entry < length line)
+    → (r ≡ s) × (exit ≡ exit')
+one_option line entry (Some m) (Some n) p full q full' = (ap Some (one_line p q).0, (one_line p q).1)
+one_option line entry (Some m) None p full q full' = clash (sym (full.1 (full'.0 refl)))
+one_option line entry None (Some n) p full q full' = clash (sym (full'.1 (full.0 refl)))
+one_option line entry None None p full q full' = (refl, (one_line p q).1)
 
 -- ---- room
 

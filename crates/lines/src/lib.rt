@@ -1,82 +1,42 @@
 #![tactic(auto)]
 // The listing's lines, as bytes in a lent buffer.
-ghost use Rattle.std.specs.Prelude.{◌≡◌, ◌++◌};
-ghost use Rattle.lines.specs.Lines.{digit_of, hex_of, ten_digits, zeros_of, decimal_of, line_of, end_line_of, Lined, LinesLaid};
+ghost use Rattle.std.specs.Prelude.{◌≡◌, ◌<◌, ◌↔◌, ◌++◌, length, unwrap_or, IsNone, decimal};
+ghost use Rattle.lines.specs.Lines.{hex_of, line_of, end_line_of, Lined, LinesLaid};
 
-fn digit(n: u32) -> u8
-    ensures { result ≡ digit_of n }
-{
-    (n % 10 + 48) as u8
-}
+use itoa::Buffer;
 
+// Kept as a table: std's `{:X}` makes a line three times slower, and the kit's writers of hex give lower case or take heap memory.
+const HEX: [u8; 16] = *b"0123456789ABCDEF";
+
+// The last hex digit of a number.
 fn hex(n: u8) -> u8
     ensures { result ≡ hex_of n }
 {
-    let k = n % 16;
-    if k < 10 { k + 48 } else { k + 55 }
-}
-
-fn ten(n: u32) -> [u8; 10]
-    ensures { result ≡ ten_digits n }
-{
-    [
-        digit(n / 1000000000),
-        digit(n / 100000000),
-        digit(n / 10000000),
-        digit(n / 1000000),
-        digit(n / 100000),
-        digit(n / 10000),
-        digit(n / 1000),
-        digit(n / 100),
-        digit(n / 10),
-        digit(n),
-    ]
-}
-
-// How many of the digits are leading zeros; the last one always stands.
-fn zeros(digits: [u8; 10]) -> usize
-    ensures { result ≡ zeros_of digits }
-{
-    let mut z: usize = 0;
-    while z < 9 {
-        if digits[z] != b'0' {
-            break;
-        }
-        z += 1;
-    }
-    z
+    HEX[usize::from(n % 16)]
 }
 
 // A word, a number and a tail to the front of the room, if they fit; how many bytes.
-fn put(word: &[u8], n: u32, tail: &[u8], room: &mut [u8]) -> usize
-    ensures { Lined (word.now ++ (decimal_of n ++ tail.now)) result room.old room.new }
+fn put(word: &[u8], n: u32, tail: &[u8], room: &mut [u8]) -> Option<usize>
+    ensures laid { Lined (word.now ++ (decimal n ++ tail.now)) (unwrap_or result 0) room.old room.new }
+    ensures full { IsNone result ↔ (length room.old < length (word.now ++ (decimal n ++ tail.now))) }
 {
-    let digits = ten(n);
-    let skip = zeros(digits);
-    let size = room.len();
-    let a = word.len();
-    if size < a {
-        return 0;
-    }
-    if size - a < 10 - skip {
-        return 0;
-    }
-    let b = a + (10 - skip);
-    if size - b < tail.len() {
-        return 0;
-    }
-    let c = b + tail.len();
-    room[..a].copy_from_slice(word);
-    room[a..b].copy_from_slice(&digits[skip..]);
-    room[b..c].copy_from_slice(tail);
-    c
+    let mut buffer = Buffer::new();
+    let digits = buffer.format(n).as_bytes();
+    let (front, rest) = room.split_at_mut_checked(word.len())?;
+    let (middle, rest) = rest.split_at_mut_checked(digits.len())?;
+    let (back, _) = rest.split_at_mut_checked(tail.len())?;
+    front.copy_from_slice(word);
+    middle.copy_from_slice(digits);
+    back.copy_from_slice(tail);
+    Some(word.len() + digits.len() + tail.len())
 }
 
-// A record's line: its number and its two answer bytes; 0 where there is no room for it.
-pub fn record_line(n: u32, first: u8, second: u8, room: &mut [u8]) -> usize
-    ensures { Lined (line_of n first second) result room.old room.new }
+// A record's line, its number and its two answer bytes, to the front of the room: how many bytes, or None where there is no room for it.
+#[tactic(auto, using(crate::proofs::Decimals::decimal_same))]
+pub fn record_line(n: u32, first: u8, second: u8, room: &mut [u8]) -> Option<usize>
+    ensures laid { Lined (line_of n first second) (unwrap_or result 0) room.old room.new }
+    ensures full { IsNone result ↔ (length room.old < length (line_of n first second)) }
 {
-    let word = [0; 0];
     let tail = [
         b' ',
         hex(first / 16),
@@ -86,35 +46,32 @@ pub fn record_line(n: u32, first: u8, second: u8, room: &mut [u8]) -> usize
         hex(second),
         b'\n',
     ];
-    put(&word, n, &tail, room)
+    put(&[], n, &tail, room)
 }
 
 // The lines of a call's answers, numbered from `first` on: as many whole lines as there is room for; how many bytes.
 pub fn record_lines(answers: &[u8], first: u32, room: &mut [u8]) -> usize
     ensures { LinesLaid first answers.now result room.old room.new }
 {
-    let mut i: usize = 0;
-    let mut size: usize = 0;
+    let mut size = 0;
     let mut n = first;
-    while answers.len() - i >= 2 {
-        let a = answers[i];
-        let b = answers[i + 1];
-        let line = record_line(n, a, b, &mut room[size..]);
-        if line == 0 {
+    let (pairs, _) = answers.as_chunks::<2>();
+    for &[a, b] in pairs {
+        let Some(line) = record_line(n, a, b, &mut room[size..]) else {
             break;
-        }
+        };
         size += line;
-        n = std::num::wrapping_add_u32(n, 1);
-        i += 2;
+        n = n.wrapping_add(1);
     }
     size
 }
 
-// The end line: records done and finishing code; 0 where there is no room for it.
-pub fn end_line(done: u32, code: u8, room: &mut [u8]) -> usize
-    ensures { Lined (end_line_of done code) result room.old room.new }
+// The end line, records done and finishing code, to the front of the room: how many bytes, or None where there is no room for it.
+#[tactic(auto, using(crate::proofs::Decimals::decimal_same), unfolding(crate::specs::Lines::digit_of))]
+pub fn end_line(done: u32, code: u8, room: &mut [u8]) -> Option<usize>
+    ensures laid { Lined (end_line_of done code) (unwrap_or result 0) room.old room.new }
+    ensures full { IsNone result ↔ (length room.old < length (end_line_of done code)) }
 {
-    let word = [b'e', b'n', b'd', b' '];
-    let tail = [b' ', digit(code as u32), b'\n'];
-    put(&word, done, &tail, room)
+    let tail = [b' ', b'0' + code % 10, b'\n'];
+    put(b"end ", done, &tail, room)
 }

@@ -122,7 +122,7 @@ fn end<W: Write>(output: &mut W, last: Reader) -> Result<Totals, Failure>
 {
     let mut text = [0; END_ROOM];
     let code = capture::finish(last);
-    let size = lines::end_line(last.done, code, &mut text);
+    let size = lines::end_line(last.done, code, &mut text).unwrap_or(0);
     put(output, &text[..size])?;
     Ok(Totals::new(last, code))
 }

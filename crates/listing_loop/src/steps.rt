@@ -148,7 +148,7 @@ pub fn lay_last(reader: Reader, page: &mut LastPage) -> EndLine
     ensures { EndLaid reader result page.old.text page.new.text }
 {
     let code = capture::finish(reader);
-    let size = lines::end_line(reader.done, code, &mut page.text);
+    let size = lines::end_line(reader.done, code, &mut page.text).unwrap_or(0);
     EndLine { size, code }
 }
 

@@ -1,36 +1,12 @@
-use Rattle.lines.proofs.Layers.{at_most_ten, no_word, no_number, no_tail, all_three}
+use Rattle.std.proofs.Common.{◌∙◌}
+use Rattle.lines.proofs.Layers.{all_three}
 use Rattle.lines.proofs.put.Goals as goal
 
-pub returns-then-size-a : goal.returns-then-size-a
-returns-then-size-a c =
-    no_word c.args.word.now c.args.tail.now c.args.room.now c.args.n c.ten-digits.ensures c.zeros-skip.ensures c.if-size-a.true
-
-pub overflow_sub-skip : goal.overflow_sub-skip
-overflow_sub-skip c =
-    at_most_ten c.args.word.now c.args.tail.now c.args.room.now c.args.n c.ten-digits.ensures c.zeros-skip.ensures
-
-pub returns-then-size-a-2 : goal.returns-then-size-a-2
-returns-then-size-a-2 c =
-    no_number c.args.word.now c.args.tail.now c.args.room.now c.args.n c.ten-digits.ensures c.zeros-skip.ensures c.if-size-a-2.true
-
-pub overflow_sub-b : goal.overflow_sub-b
-overflow_sub-b c =
-    at_most_ten c.args.word.now c.args.tail.now c.args.room.now c.args.n c.ten-digits.ensures c.zeros-skip.ensures
-
-pub returns-then-size-b : goal.returns-then-size-b
-returns-then-size-b c =
-    no_tail c.args.word.now c.args.tail.now c.args.room.now c.args.n c.ten-digits.ensures c.zeros-skip.ensures c.if-size-b.true
-
-pub slice_bounds-copy_from_slice-count-2 : goal.slice_bounds-copy_from_slice-count-2
-slice_bounds-copy_from_slice-count-2 c =
-    at_most_ten c.args.word.now c.args.tail.now c.args.room.now c.args.n c.ten-digits.ensures c.zeros-skip.ensures
-
-pub slice_bounds-copy_from_slice-start-2 : goal.slice_bounds-copy_from_slice-start-2
-slice_bounds-copy_from_slice-start-2 c =
-    at_most_ten c.args.word.now c.args.tail.now c.args.room.now c.args.n c.ten-digits.ensures c.zeros-skip.ensures
-
-pub returns : goal.returns
-returns c =
-    all_three c.args.word.now c.args.tail.now c.args.room.now c.args.n c.ten-digits.ensures c.zeros-skip.ensures
-    c.if-size-a.false c.if-size-a-2.false c.if-size-b.false
+pub returns-clause-laid : goal.returns-clause-laid
+returns-clause-laid c =
+    let front = c.in_ok-room.ensures.cases in
+    let middle = c.in_ok-rest.ensures.cases in
+    let back = c.in_ok-rest-2.ensures.cases in
+    all_three _ _ _ _ (c.as_bytes-digits.ensures.value ∙ c.format.ensures.text)
     c.copy_from_slice.ensures.after c.copy_from_slice-2.ensures.after c.copy_from_slice-3.ensures.after
+    front.3 middle.3 back.3 front.4 middle.4 back.4

@@ -1,25 +1,33 @@
-use Rattle.std.proofs.Common.{arith}
+use Rattle.std.proofs.Common.{refl, arith}
 use Rattle.lines.proofs.Blocks.{start, line_more, no_more, no_pair}
 use Rattle.lines.proofs.record_lines.Goals as goal
 
--- Between two lines: the text is what is laid so far, and then the lines of the answers from i on. Assumes nothing.
+-- Between two lines: the text is what is laid so far, and then the lines of the pairs to come. Assumes nothing.
 
-pub loop-i-init : goal.loop-i-init
-loop-i-init c = (start _ _ _, omega arith, omega arith)
+pub loop-a-init : goal.loop-a-init
+loop-a-init c = (start _ _ _, omega arith)
 
 pub overflow_add-size : goal.overflow_add-size
 overflow_add-size c =
-    let g = line_more _ c.loop-i.n c.loop-i.i c.loop-i.invariant.0 (omega arith) c.record_line-line.ensures c.if-line-eq0.false in
-    omega (arith, g.within, c.loop-i.invariant.2)
+    let l = c.loop-a in
+    let pairs = c.as_chunks.ensures in
+    let g = line_more _ l.n l.a-index pairs.front (omega (arith, pairs.front_len)) l.invariant.0 c.in-Some.ensures.laid c.in-Some.ensures.full.1 in
+    omega (arith, g.within, l.invariant.1)
 
-pub loop-i-preserved : goal.loop-i-preserved
-loop-i-preserved c =
-    let g = line_more _ c.loop-i.n c.loop-i.i c.loop-i.invariant.0 (omega arith) c.record_line-line.ensures c.if-line-eq0.false in
-    (rw c.wrapping_add_u32-n.ensures.value g, omega arith, c.loop-i.invariant.2)
+pub loop-a-preserved : goal.loop-a-preserved
+loop-a-preserved c =
+    let l = c.loop-a in
+    let pairs = c.as_chunks.ensures in
+    (line_more _ l.n l.a-index pairs.front (omega (arith, pairs.front_len)) l.invariant.0 c.in-Some.ensures.laid c.in-Some.ensures.full.1, l.invariant.1)
 
-pub returns-after-loop-i : goal.returns-after-loop-i
-returns-after-loop-i c = no_pair _ c.loop-i.n c.loop-i.i c.loop-i.invariant.0 c.loop-i-test.false
+pub returns-after-loop-a : goal.returns-after-loop-a
+returns-after-loop-a c =
+    let l = c.loop-a in
+    no_pair _ l.n l.a-index (omega (arith, c.as_chunks.ensures.front_len)) l.invariant.0
 
-pub returns-then-line-eq0 : goal.returns-then-line-eq0
-returns-then-line-eq0 c =
-    no_more _ c.loop-i.n c.loop-i.i c.loop-i.invariant.0 (omega arith) c.record_line-line.ensures c.if-line-eq0.true
+pub returns-in_default : goal.returns-in_default
+returns-in_default c =
+    let l = c.loop-a in
+    let pairs = c.as_chunks.ensures in
+    let answer = c.in_default.ensures in
+    no_more _ l.n l.a-index pairs.front (omega (arith, pairs.front_len)) l.invariant.0 answer.laid (answer.full.0 refl)
