@@ -4,7 +4,7 @@ use mathlib.Core.Path.{◌≡◌, refl, sym, ◌∙◌}
 use mathlib.Core.Logic.{◌↔◌}
 use Prim.Native.Nat.{ℕ, zero, suc, ◌+◌, ◌*◌, ◌/◌, ◌%◌, ◌<◌, ◌≤◌, max}
 use native.Mathlib.Omega.{arith}
-use native.Mathlib.Nat.{div-add-mod', mod-lt, div-lt_iff_lt-mul, lt_of_mul-lt-mul_right, mul-div-mul_left}
+use native.Mathlib.Nat.{div-add-mod', mod-lt, lt_of_mul-lt-mul_right, mul-div-mul_left}
 use lib.Dec.{leb}
 use borrow.Author.Tests.{ne_eqb, leb-true, leb-false, le-leb, lt-leb}
 use Rattle.laws.proofs.Choices.{by_test}
@@ -73,13 +73,6 @@ one_duty n value d e x y =
 pub duty_exactly : (n value d : ℕ) → (duty_of n value ≡ d) ↔ Duty n value d
 duty_exactly n value =
     by_lines (Duty n value) (duty_of n value) (is_duty n value) (λ d. one_duty n value (duty_of n value) d (is_duty n value))
-
--- the program's number: nearest, and in sixteen bits
-pub rounded : (a n : ℕ) → 0 < n → Nearest a (2 * n) ((a + n) / (2 * n))
-rounded a n h = rw (halved a n) at (is_nearest a (2 * n) (omega arith))
-
-pub small : (v n m : ℕ) → v < 2 * n → m ≤ n → (10000 * v + m) / (2 * n) < 65536
-small v n m h k = let p : 0 < 2 * n = omega arith in (div-lt_iff_lt-mul p).1 (omega arith)
 
 -- ---- frequency 0 counts as 1
 
