@@ -196,13 +196,13 @@ upto : (restart : Bool) (counted bytes room : ℕ) → 1 ≤ counted → 1 ≤ b
 upto true counted bytes room c b r = record { some = omega arith; few = c; whole = omega arith; lent = r }
 upto false counted bytes room c b r = record { some = omega arith; few = omega arith; whole = omega arith; lent = omega arith }
 
-pub run_start : (s : Reader) (input before : List ℕ) (from start : ℕ) → Ready s input from before start → length s.bytes ≡ 3
+pub run_start : (s : Reader) (input before : List ℕ) (from start : ℕ) → ranges_of s ≡ true → Ready s input from before start → length s.bytes ≡ 3
     → length input < 2 ^ 64 → length before < 2 ^ 64
     → Running s input before from start before (get_or s.bytes 0 0) (get_or s.bytes 1 0) (get_or s.bytes 2 0)
     (picked_of s.bus (hand_at s).second) s.done from start
     (upto_of (hand_at s).restart (s.count - s.done) (length input - from) (length before - start))
-run_start s input before from start r e f h =
-    let k = waiting s r.ok r.waits in
+run_start s input before from start ok r e f h =
+    let k = waiting s ok r.waits in
     let u = upto (hand_at s).restart (s.count - s.done) (length input - from) (length before - start)
     (omega (arith, k.counted)) (omega (arith, r.within)) (omega (arith, r.room))
     in
@@ -219,7 +219,7 @@ run_start s input before from start r e f h =
       long = refl;
       input_fits = f;
       answers_fit = h;
-      count_fits = count_fits s r.ok;
+      count_fits = count_fits s ok;
     }
 
 -- once a record is stepped and its pair stored: the last of those left; or, with the next one's three bytes, as it leaves and as it goes on

@@ -3,7 +3,6 @@
 use Rattle.std.specs.Prelude.{ℕ, ◌+◌, ◌-◌, ◌/◌, min, ◌≤◌, ◌<◌, ◌≡◌, List, [], ◌∷◌, Bool, true, ◌&&◌, ◌||◌, cond, Result, Ok, Err, length, get_or, take, drop, eqb}
 use Rattle.pair.specs.declared.Bus.{Bus}
 use Rattle.capture.specs.declared.Reader.{Reader}
-use Rattle.capture.specs.declared.Ahead.{Ahead}
 use Rattle.capture.specs.declared.Fed.{Fed}
 use Rattle.device.specs.Bus.{powered_of}
 use Rattle.device.specs.Ranges.{variant_of}
@@ -56,15 +55,14 @@ abbrev pub upto_of : Bool → ℕ → ℕ → ℕ → ℕ
 upto_of restart counted bytes room = cond restart 1 (min counted (min ((bytes + 3) / 4) (room / 2)))
 
 -- bytes that complete no record are taken: up to the end, a refused byte, or one that completes a record
-pub record Led (input : List ℕ) (s : Reader) (from : ℕ) (a : Ahead) : Type 0 where
-  pub onward : (answers : List ℕ) (written : ℕ) → Onward input answers s from written answers a.reader a.at written
-  pub forward : from ≤ a.at
-  pub within : a.at ≤ length input
-  pub ready : a.at < length input → a.reader.held ≡ 0 → waits_of a.reader ≡ true
+pub record Led (input : List ℕ) (s : Reader) (from : ℕ) (n : Reader) (at : ℕ) : Type 0 where
+  pub onward : (answers : List ℕ) (written : ℕ) → Onward input answers s from written answers n at written
+  pub forward : from ≤ at
+  pub within : at ≤ length input
+  pub ready : at < length input → n.held ≡ 0 → waits_of n ≡ true
 
--- a state in its ranges, the fourth byte of a record next and there, and room for its answers
+-- the fourth byte of a record is next and there, and room for its answers
 pub record Ready (s : Reader) (input : List ℕ) (from : ℕ) (answers : List ℕ) (start : ℕ) : Type 0 where
-  pub ok : ranges_of s ≡ true
   pub waits : waits_of s ≡ true
   pub within : from < length input
   pub room : start + 2 ≤ length answers

@@ -1,7 +1,7 @@
 #![tactic(auto)]
 // The capture's reader: fed in parts of any size, with any room for answers.
-ghost use Rattle.std.specs.Prelude.{◌≡◌};
-ghost use Rattle.capture.specs.Reader.{fresh_of, end_of, finish_of, report_of, FedWith};
+ghost use Rattle.std.specs.Prelude.{◌≡◌, true};
+ghost use Rattle.capture.specs.Reader.{ranges_of, fresh_of, end_of, finish_of, report_of, FedWith};
 
 use pair::Bus;
 
@@ -27,11 +27,12 @@ pub struct Reader {
     pub bus: Bus,
 }
 
-// The state before a byte of the input.
+// The state before a byte of the input, in its ranges.
 #[derive(Clone, Copy)]
 pub struct Ahead {
     pub reader: Reader,
     pub at: usize,
+    ghost in_range: { ranges_of reader ≡ true },
 }
 
 // What a call reports.
@@ -87,16 +88,16 @@ pub fn feed(reader: Reader, input: &[u8], answers: &mut [u8]) -> Fed
     let mut at = 0;
     let mut written = 0;
     loop {
-        let ahead = taking::lead(s, input, at);
+        let ahead = taking::lead(Ahead { reader: s, at }, input);
         s = ahead.reader;
         at = ahead.at;
         if (at == input.len()) | (s.held != 0) {
             return report(s.held, at, written, s);
         }
         if answers.len() - written < 2 {
-            return running::no_room(s, input[at], at, written);
+            return running::no_room(ahead, input[at], written);
         }
-        let ran = running::run(s, input, at, answers, written);
+        let ran = running::run(ahead, input, answers, written);
         if ran.code != 0 {
             return ran;
         }

@@ -6,7 +6,7 @@ ghost use Rattle.capture.specs.Reader.{ranges_of, hold_of, between_of, report_of
 ghost use Rattle.capture.specs.Refusal.{refusal_code_of};
 ghost use Rattle.capture.specs.Loops.{waits_of, carrying_of, upto_of, Ready, Took, Full};
 
-use super::{Fed, Reader, Refusal, report, taking};
+use super::{Ahead, Fed, Reader, Refusal, report, taking};
 use device::Device;
 use pair::hand;
 use pair::hand::Hand;
@@ -54,11 +54,11 @@ fn refused(s: Reader, why: Refusal, at: usize, written: usize) -> Fed
 }
 
 // A record's fourth byte with no room for its answers: 3 or 4, else 7.
-pub(crate) fn no_room(s: Reader, c: u8, at: usize, written: usize) -> Fed
-    requires in_range { ranges_of s ≡ true }
-    requires waiting { waits_of s ≡ true }
-    ensures { Full s c at written result }
+pub(crate) fn no_room(ahead: Ahead, c: u8, written: usize) -> Fed
+    requires { waits_of ahead.reader ≡ true }
+    ensures { Full ahead.reader c ahead.at written result }
 {
+    let Ahead { reader: s, at } = ahead;
     let [kind, a, b] = s.bytes;
     match record::decode(s.bus.devices, kind, a, b, c) {
         Ok(_) => report(u8::from(Refusal::Room), at, written, s),
@@ -80,17 +80,20 @@ fn upto(restart: bool, s: Reader, bytes: usize, room: usize) -> usize
 }
 
 // From a record whose fourth byte is next, for as long as whole records follow that name no other device: a code that ends the call, or 0.
-pub(crate) fn run(s: Reader, input: &[u8], from: usize, answers: &mut [u8], start: usize) -> Fed
-    requires { Ready s input.now from answers.old start }
-    ensures { Took input.now answers.old s from start answers.new result }
+// Kept as a loop: chunks are no plainer, since it takes a record's fourth byte and the next one's first three in turn, and may end between them.
+// Kept: the report of the call, C's lm89_fed, with code 0 where it goes on; a Result of it and of the same three numbers is no plainer.
+pub(crate) fn run(ahead: Ahead, input: &[u8], answers: &mut [u8], start: usize) -> Fed
+    requires { Ready ahead.reader input.now ahead.at answers.old start }
+    ensures { Took input.now answers.old ahead.reader ahead.at start answers.new result }
 {
+    let s = ahead.reader;
     let [mut kind, mut a, mut b] = s.bytes;
     let h = hand::taken(s.bus, kind, a);
     let mut device = pair::picked(s.bus, h.second);
     let mut done = s.done;
-    let mut at = from;
+    let mut at = ahead.at;
     let mut written = start;
-    let mut left = upto(h.restart, s, input.len() - from, answers.len() - start);
+    let mut left = upto(h.restart, s, input.len() - at, answers.len() - start);
     loop {
         let e = match record::decode(h.devices, kind, a, b, input[at]) {
             Ok(e) => e,

@@ -71,7 +71,7 @@ fn head_byte(s: Reader, b: u8) -> Result<Reader, Refusal>
     })
 }
 
-// A byte at one of three places, each by a constant index, so that the state stays in registers.
+// A byte at one of three places, each by a constant index: the state stays in registers.
 fn placed(q: [u8; 3], at: u8, b: u8) -> [u8; 3]
     requires { at < 3 }
     ensures { result ≡ set q at b }
@@ -120,13 +120,12 @@ fn take_quiet(s: Reader, b: u8) -> Reader
 }
 
 // As many bytes as complete no record.
-pub(crate) fn lead(s: Reader, input: &[u8], from: usize) -> Ahead
-    requires in_range { ranges_of s ≡ true }
-    requires within { from ≤ length input.now }
-    ensures { Led input.now s from result }
+pub(crate) fn lead(ahead: Ahead, input: &[u8]) -> Ahead
+    requires { ahead.at ≤ length input.now }
+    ensures { Led input.now ahead.reader ahead.at result.reader result.at }
 {
-    let mut n = s;
-    for at in from..input.len() {
+    let mut n = ahead.reader;
+    for at in ahead.at..input.len() {
         if waits(n) {
             return Ahead { reader: n, at };
         }

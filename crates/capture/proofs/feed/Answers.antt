@@ -29,7 +29,7 @@ loop-at-init c =
     start a.reader a.input.now a.answers.now good
 
 pub lead-ahead-requires : goal.lead-ahead-requires
-lead-ahead-requires c = record { in_range = c.loop-at.invariant.ok; within = c.loop-at.invariant.within }
+lead-ahead-requires c = c.loop-at.invariant.within
 
 -- after `lead` the outcome is no other: `c.lead-ahead.ensures.onward` of the loop's invariant
 
@@ -45,8 +45,7 @@ bounds-input-at c =
 
 pub no_room-requires : goal.no_room-requires
 no_room-requires c =
-    let here = c.lead-ahead.ensures.onward _ _ _ _ c.loop-at.invariant in
-    record { in_range = here.ok; waiting = (onto c.lead-ahead.ensures c.if-at-input.false).1 }
+    (onto c.lead-ahead.ensures c.if-at-input.false).1
 
 pub returns-then-answers-written-lt2 : goal.returns-then-answers-written-lt2
 returns-then-answers-written-lt2 c =
@@ -57,9 +56,8 @@ returns-then-answers-written-lt2 c =
 
 pub run-ran-requires : goal.run-ran-requires
 run-ran-requires c =
-    let here = c.lead-ahead.ensures.onward _ _ _ _ c.loop-at.invariant in
     let on = onto c.lead-ahead.ensures c.if-at-input.false in
-    record { ok = here.ok; waits = on.1; within = on.0; room = omega (arith, c.if-answers-written-lt2.false) }
+    record { waits = on.1; within = on.0; room = omega (arith, c.if-answers-written-lt2.false) }
 
 pub returns-then-ran-ne0 : goal.returns-then-ran-ne0
 returns-then-ran-ne0 c =

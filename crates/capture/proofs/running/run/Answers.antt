@@ -38,19 +38,19 @@ stored {s} {answers = answers} {kind = kind} {a = a} {b = b} {written = written}
 
 pub upto-left-requires : goal.upto-left-requires
 upto-left-requires c =
-    let w = waiting c.args.s c.requires.ok c.requires.waits in
+    let w = waiting c.args.ahead.reader c.args.ahead.in_range c.requires.waits in
     omega (arith, w.counted)
 
 pub loop-e-init : goal.loop-e-init
 loop-e-init c =
     let a = c.args in
     rw (c.upto-left.ensures, c.picked-device.ensures, c.taken-h.ensures)
-    (run_start a.s a.input.now a.answers.now a.from a.start c.requires (search rules) (omega arith) (omega arith))
+    (run_start a.ahead.reader a.input.now a.answers.now a.ahead.at a.start a.ahead.in_range c.requires (search rules) (omega arith) (omega arith))
 
 pub returns-in-Err : goal.returns-in-Err
 returns-in-Err c =
     rw (c.refused.ensures, c.from.ensures, same_code _, c.carrying-n.ensures, c.taken-h.ensures)
-    (run_refused c.loop-e.invariant _ (read c.args.s _ _ _ _ c.taken-h.ensures c.decode.ensures ∙ c.in-Err.is))
+    (run_refused c.loop-e.invariant _ (read c.args.ahead.reader _ _ _ _ c.taken-h.ensures c.decode.ensures ∙ c.in-Err.is))
 
 pub returns-then-left-eq0 : goal.returns-then-left-eq0
 returns-then-left-eq0 c =
