@@ -2,7 +2,7 @@
 ghost use Rattle.std.specs.Prelude.{◌≡◌, true, ◌∷◌, ◌-◌, min, ◌≤◌, length, drop};
 ghost use Rattle.pair.specs.Bus.{placed_of};
 ghost use Rattle.pair.specs.Hand.{settled_of};
-ghost use Rattle.capture.specs.Reader.{ranges_of, hold_of, between_of, report_of};
+ghost use Rattle.capture.specs.Reader.{hold_of, between_of, report_of};
 ghost use Rattle.capture.specs.Refusal.{refusal_code_of};
 ghost use Rattle.capture.specs.Loops.{waits_of, carrying_of, upto_of, Ready, Took, Full};
 
