@@ -34,6 +34,7 @@ pub struct Report {
 }
 
 // A report or a refusal as C gets it: a code, 0 for a report, and the report's numbers, each 0 at a refusal.
+// Kept: the C interface (struct lm89_speeds) has these fields.
 #[repr(C)]
 #[derive(Drop)]
 pub struct Speeds {
