@@ -2,7 +2,7 @@
 // Temperatures (P1 to P3, request b): two's complement bytes, signed eighths of a degree, and their comparisons.
 ghost use Rattle.std.specs.Prelude.{◌≡◌, [], ◌∷◌};
 ghost use Rattle.temperature.specs.Temperature.{degrees_of, eighths_of, held_of, held_sum_of, open_reading, above_of, below_of, cleared_of};
-ghost use Rattle.temperature.specs.Temperature.{high_byte_of, low_byte_of};
+ghost use Rattle.temperature.specs.Temperature.{word_of, high_byte_of, low_byte_of};
 
 // The ends of the scale, in eighths.
 pub const LOWEST: i16 = -1024;
@@ -81,11 +81,18 @@ pub fn cleared(t: i16, crit: u8, hysteresis: u8) -> bool
     t < eighths(crit, 0) - (hysteresis as i16) * 8
 }
 
+// The sixteen bits of a number, two's complement.
+pub fn word(t: i16) -> u16
+    ensures { result ≡ word_of t }
+{
+    t.cast_unsigned()
+}
+
 // P1 the other way: a reading as its two bytes, its eighths at the top of the second.
 fn two_bytes(t: i16) -> [u8; 2]
     ensures { result ≡ high_byte_of t ∷ low_byte_of t ∷ [] }
 {
-    (t.cast_unsigned() << 5).to_be_bytes()
+    (word(t) << 5).to_be_bytes()
 }
 
 // P1 the other way: the high byte of a reading.
