@@ -26,6 +26,7 @@ use Rattle.pair.specs.Bus.{picked_of, placed_of, Answered, answers_of, header_le
 use Rattle.pair.specs.Hand.{named_at, hand_of, leaves_of, settled_of}
 use Rattle.pair.proofs.AtHand.{laid_of, Laid, second_of_two, placed_picked, hand_first, hand_next}
 use Rattle.capture.specs.declared.Reader.{Reader}
+use Rattle.capture.specs.declared.Ahead.{Ahead}
 use Rattle.capture.specs.Refusal.{refusal_code_of, of_record}
 use Rattle.capture.specs.Reader.{with_carried, hold_of, between_of, header_length_of, header_done, ranges_of}
 use Rattle.capture.specs.Reader.{quiet_of, answered_of, judged_of, turn_of, feed_of, Out, join_of, report_of, Meets}
@@ -196,13 +197,15 @@ upto : (restart : Bool) (counted bytes room : ℕ) → 1 ≤ counted → 1 ≤ b
 upto true counted bytes room c b r = record { some = omega arith; few = c; whole = omega arith; lent = r }
 upto false counted bytes room c b r = record { some = omega arith; few = omega arith; whole = omega arith; lent = omega arith }
 
-pub run_start : (s : Reader) (input before : List ℕ) (from start : ℕ) → ranges_of s ≡ true → Ready s input from before start → length s.bytes ≡ 3
+pub run_start : (n : Ahead) (input before : List ℕ) (start : ℕ) → Ready n input before start → length n.reader.bytes ≡ 3
     → length input < 2 ^ 64 → length before < 2 ^ 64
-    → Running s input before from start before (get_or s.bytes 0 0) (get_or s.bytes 1 0) (get_or s.bytes 2 0)
-    (picked_of s.bus (hand_at s).second) s.done from start
-    (upto_of (hand_at s).restart (s.count - s.done) (length input - from) (length before - start))
-run_start s input before from start ok r e f h =
-    let k = waiting s ok r.waits in
+    → Running n.reader input before n.at start before (get_or n.reader.bytes 0 0) (get_or n.reader.bytes 1 0) (get_or n.reader.bytes 2 0)
+    (picked_of n.reader.bus (hand_at n.reader).second) n.reader.done n.at start
+    (upto_of (hand_at n.reader).restart (n.reader.count - n.reader.done) (length input - n.at) (length before - start))
+run_start n input before start r e f h =
+    let s = n.reader in
+    let from = n.at in
+    let k = waiting s n.in_range r.waits in
     let u = upto (hand_at s).restart (s.count - s.done) (length input - from) (length before - start)
     (omega (arith, k.counted)) (omega (arith, r.within)) (omega (arith, r.room))
     in
@@ -219,7 +222,7 @@ run_start s input before from start ok r e f h =
       long = refl;
       input_fits = f;
       answers_fit = h;
-      count_fits = count_fits s ok;
+      count_fits = count_fits s n.in_range;
     }
 
 -- once a record is stepped and its pair stored: the last of those left; or, with the next one's three bytes, as it leaves and as it goes on

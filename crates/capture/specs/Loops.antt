@@ -3,6 +3,7 @@
 use Rattle.std.specs.Prelude.{ℕ, ◌+◌, ◌-◌, ◌/◌, min, ◌≤◌, ◌<◌, ◌≡◌, List, [], ◌∷◌, Bool, true, ◌&&◌, ◌||◌, cond, Result, Ok, Err, length, get_or, take, drop, eqb}
 use Rattle.pair.specs.declared.Bus.{Bus}
 use Rattle.capture.specs.declared.Reader.{Reader}
+use Rattle.capture.specs.declared.Ahead.{Ahead}
 use Rattle.capture.specs.declared.Fed.{Fed}
 use Rattle.device.specs.Bus.{powered_of}
 use Rattle.device.specs.Ranges.{variant_of}
@@ -61,10 +62,10 @@ pub record Led (input : List ℕ) (s : Reader) (from : ℕ) (n : Reader) (at : �
   pub within : at ≤ length input
   pub ready : at < length input → n.held ≡ 0 → waits_of n ≡ true
 
--- the fourth byte of a record is next and there, and room for its answers
-pub record Ready (s : Reader) (input : List ℕ) (from : ℕ) (answers : List ℕ) (start : ℕ) : Type 0 where
-  pub waits : waits_of s ≡ true
-  pub within : from < length input
+-- a state in its ranges, the fourth byte of a record next and there, and room for its answers
+pub record Ready (a : Ahead) (input answers : List ℕ) (start : ℕ) : Type 0 where
+  pub waits : waits_of a.reader ≡ true
+  pub within : a.at < length input
   pub room : start + 2 ≤ length answers
 
 -- records are taken: one at least, or the first is refused

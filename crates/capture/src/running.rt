@@ -83,7 +83,7 @@ fn upto(restart: bool, s: Reader, bytes: usize, room: usize) -> usize
 // Kept as a loop: chunks are no plainer, since it takes a record's fourth byte and the next one's first three in turn, and may end between them.
 // Kept: the report of the call, C's lm89_fed, with code 0 where it goes on; a Result of it and of the same three numbers is no plainer.
 pub(crate) fn run(ahead: Ahead, input: &[u8], answers: &mut [u8], start: usize) -> Fed
-    requires { Ready ahead.reader input.now ahead.at answers.old start }
+    requires { Ready ahead input.now answers.old start }
     ensures { Took input.now answers.old ahead.reader ahead.at start answers.new result }
 {
     let s = ahead.reader;

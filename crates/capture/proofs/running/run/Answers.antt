@@ -45,7 +45,7 @@ pub loop-e-init : goal.loop-e-init
 loop-e-init c =
     let a = c.args in
     rw (c.upto-left.ensures, c.picked-device.ensures, c.taken-h.ensures)
-    (run_start a.ahead.reader a.input.now a.answers.now a.ahead.at a.start a.ahead.in_range c.requires (search rules) (omega arith) (omega arith))
+    (run_start a.ahead a.input.now a.answers.now a.start c.requires (search rules) (omega arith) (omega arith))
 
 pub returns-in-Err : goal.returns-in-Err
 returns-in-Err c =
