@@ -1,15 +1,15 @@
 -- Entries up to a number: the highest that a test holds of, `highest_exactly`, and whether it holds of some, `found` and `not_found`. What src/table.rt finds
--- of a table's entries is so of its pairs: `sorted_falls`, `some_out`, `last_stands`.
+-- of a table's places is so of its entries: `sorted_falls`, `some_out`, `last_stands`.
 -- Assumes nothing.
 use mathlib.Core.Path.{◌≡◌, refl, sym, ◌∙◌}
 use mathlib.Core.Logic.{◌↔◌}
 use mathlib.Core.List.{List, [], ◌∷◌}
 use mathlib.Core.Bool.{Bool, true, false, ◌||◌, not}
-use Prim.Native.Nat.{ℕ, zero, suc, ◌+◌, ◌≤◌, ◌<◌}
+use Prim.Native.Nat.{ℕ, zero, suc, ◌+◌, ◌*◌, ◌≤◌, ◌<◌}
 use native.Mathlib.Numerals.{add-one}
 use native.Mathlib.Omega.{arith}
 use lib.Dec.{leb, ltb}
-use lib.ListN.{get_or, length, take, length-map}
+use lib.ListN.{get_or, length, take}
 use lib.IntN.{ℤ}
 use borrow.Author.Tests.{leb-true, leb-false, ltb-true, ltb-false, le-ltb, lt-ltb}
 use Rattle.laws.proofs.Choices.{clash, cond_ind, by_test}
@@ -17,11 +17,10 @@ use Rattle.laws.proofs.Exactly.{by_lines}
 use Rattle.std.specs.Prelude.{Option, None, Some, IfNone, IfSome}
 use Rattle.std.specs.Option.{option_map_or}
 use Rattle.std.specs.List.{IsAllAdjacentAnswer, AllAdjacentBelow, list_any}
-use Rattle.std.proofs.lemmas.List.{get_or-map, get_or_past, take_all}
+use Rattle.std.specs.Simd.{first_chunks}
+use Rattle.std.proofs.lemmas.List.{get_or_past, take_all}
 use Rattle.std.proofs.lemmas.List.Folds.{list_any_more}
-use Rattle.fan.specs.declared.table.Entry.{Entry}
-use Rattle.fan.specs.Table.{temperature_of, value_of, entry_stands, Highest, highest, step_of, some_of, falls_of, out_of}
-use Rattle.fan.specs.Entries.{pairs_of, stands_at}
+use Rattle.fan.specs.Table.{table_of, temperature_of, value_of, entry_stands, Highest, highest, step_of, some_of, falls_of, out_of}
 
 pub neither : (a b : Bool) → (a || b) ≡ false → (a ≡ false) × (b ≡ false)
 neither true b e = clash (sym e)
@@ -99,86 +98,91 @@ falls_at table k = ltb (temperature_of table (suc k)) (temperature_of table k)
 abbrev pub out_at : List (List ℕ) → ℕ → Bool
 out_at table k = ltb 127 (temperature_of table k) || ltb 63 (value_of table k)
 
--- ---- a table's entries
+-- ---- a table's places
 
-abbrev pub none : Entry
-none = record { temperature = 0; value = 0 }
+-- an entry's two numbers
+abbrev pub temperature : List ℕ → ℕ
+temperature entry = get_or entry 0 0
 
-pub pair_at : (xs : List Entry) (k : ℕ) (d : Entry) → k < length xs → get_or (pairs_of xs) k [] ≡ (get_or xs k d).temperature ∷ (get_or xs k d).value ∷ []
-pair_at xs k d h = get_or-map _ xs k d [] h
+abbrev pub value : List ℕ → ℕ
+value entry = get_or entry 1 0
 
--- a PWM value is that of the entry before the step's place, or 0
-pub value_listed : (xs : List Entry) (step value : ℕ) → (step ≡ 0 → value ≡ 0)
-    → ((i : ℕ) → step ≡ i + 1 → i < length xs → value ≡ (get_or xs i none).value)
-    → ((i : ℕ) → step ≡ i + 1 → length xs ≤ i → value ≡ 0) → value ≡ value_of (pairs_of xs) step
-value_listed xs zero value first some past = first refl
-value_listed xs (suc i) value first some past =
-    by_test (ltb i (length xs))
-    (λ t. let h = ltb-true _ _ t in rw (pair_at xs i none h) (some i (omega arith) h))
-    (λ t. let h = ltb-false _ _ t in rw (get_or_past (pairs_of xs) i [] (rw (length-map xs _) h)) (past i (omega arith) h))
+-- a pair of the bytes, cut from the front on
+pair_at : (k i : ℕ) (bytes : List ℕ) → 2 * k ≤ length bytes → i < k
+    → get_or (first_chunks 2 k bytes) i [] ≡ get_or bytes (2 * i) 0 ∷ get_or bytes (suc (2 * i)) 0 ∷ []
+pair_at zero i bytes h l = absurd (omega arith)
+pair_at (suc k) i [] h l = absurd (omega arith)
+pair_at (suc k) i (a ∷ []) h l = absurd (omega arith)
+pair_at (suc k) zero (a ∷ b ∷ rest) h l = refl
+pair_at (suc k) (suc i) (a ∷ b ∷ rest) h l =
+    let even : 2 * suc i ≡ suc (suc (2 * i)) = omega arith in
+    rw even (pair_at k i rest (omega arith) (omega arith))
+
+-- sixteen bytes by twos are the table
+pub by_twos : (bytes : List ℕ) → length bytes ≡ 16 → first_chunks 2 8 bytes ≡ table_of bytes
+by_twos bytes l =
+    let at : (i : ℕ) → i < 8 → get_or (first_chunks 2 8 bytes) i [] ≡ get_or bytes (2 * i) 0 ∷ get_or bytes (suc (2 * i)) 0 ∷ [] =
+    λ i h. pair_at 8 i bytes (omega arith) h in
+    rw (at 0 (omega arith), at 1 (omega arith), at 2 (omega arith), at 3 (omega arith))
+    (rw (at 4 (omega arith), at 5 (omega arith), at 6 (omega arith), at 7 (omega arith)))
+
+-- the PWM value of a step is that of the entry at the place before it, or 0
+pub value_listed : (xs : List (List ℕ)) (step n : ℕ) → (step ≡ 0 → n ≡ 0) → ((i : ℕ) → step ≡ i + 1 → i < length xs → n ≡ value (get_or xs i []))
+    → ((i : ℕ) → step ≡ i + 1 → length xs ≤ i → n ≡ 0) → n ≡ value_of xs step
+value_listed xs zero n first some past = first refl
+value_listed xs (suc i) n first some past =
+    by_test (ltb i (length xs)) (λ t. some i (omega arith) (ltb-true _ _ t))
+    (λ t. let h = ltb-false _ _ t in rw (get_or_past xs i [] h) (past i (omega arith) h))
 
 -- where each entry is at or below the next, none falls
-in_order : (xs : List Entry) → length xs ≡ 8 → AllAdjacentBelow (λ (x y : Entry). true ≡ leb x.temperature y.temperature) xs (length xs)
-    → (k : ℕ) → 0 < k → k ≤ 7 → falls_at (pairs_of xs) k ≡ false
+in_order : (xs : List (List ℕ)) → length xs ≡ 8 → AllAdjacentBelow (λ (x y : List ℕ). true ≡ leb (temperature x) (temperature y)) xs (length xs)
+    → (k : ℕ) → 0 < k → k ≤ 7 → falls_at xs k ≡ false
 in_order xs l each zero p q = absurd (omega arith)
-in_order xs l each (suc k) p q =
-    let here = pair_at xs k none (omega (arith, l)) in
-    let next = pair_at xs (suc k) none (omega (arith, l)) in
-    let below : (get_or xs k none).temperature ≤ (get_or xs (suc k) none).temperature =
-    leb-true _ _ (rw (add-one k) at (sym (each k none (omega (arith, l))))) in
-    rw (here, next) (le-ltb _ _ below)
+in_order xs l each (suc k) p q = le-ltb _ _ (leb-true _ _ (rw (add-one k) at (sym (each k [] (omega (arith, l))))))
 
 -- the test of an entry and the next is false exactly where the table falls
-pub sorted_falls : (xs : List Entry) → length xs ≡ 8 → (r : Bool) → IsAllAdjacentAnswer (λ (x y : Entry) (b : Bool). b ≡ leb x.temperature y.temperature) xs r
-    → not r ≡ falls_of (pairs_of xs)
+pub sorted_falls : (xs : List (List ℕ)) → length xs ≡ 8 → (r : Bool)
+    → IsAllAdjacentAnswer (λ (x y : List ℕ) (b : Bool). b ≡ leb (temperature x) (temperature y)) xs r → not r ≡ falls_of xs
 unfolding falls_of
-sorted_falls xs l true each =
-    sym (not_found (falls_at (pairs_of xs)) 7 (in_order xs l each))
+sorted_falls xs l true each = sym (not_found (falls_at xs) 7 (in_order xs l each))
 sorted_falls xs l false one =
     let k = one.0 in
-    let here = pair_at xs k none (omega (arith, one.1)) in
-    let next = pair_at xs (suc k) none (omega (arith, one.1)) in
-    let above : (get_or xs (suc k) none).temperature < (get_or xs k none).temperature = leb-false _ _ (rw (add-one k) at (sym (one.2 none))) in
-    sym (is_found (falls_at (pairs_of xs)) 7 (suc k) (omega arith) (omega (arith, l, one.1)) (rw (here, next) (lt-ltb _ _ above)))
-
--- the test of the entry at a place
-pub stands_there : (xs : List Entry) → length xs ≡ 8 → (h e : ℕ) (r : ℤ) (i : ℕ) → i < 8 → entry_stands (pairs_of xs) h e r (suc i) ≡ stands_at xs h e r i
-stands_there xs l h e r i p = rw (pair_at xs i none (omega (arith, l)))
+    let above : temperature (get_or xs (suc k) []) < temperature (get_or xs k []) = leb-false _ _ (rw (add-one k) at (sym (one.2 []))) in
+    sym (is_found (falls_at xs) 7 (suc k) (omega arith) (omega (arith, l, one.1)) (lt-ltb _ _ above))
 
 -- where none stands the step is 0
-pub none_stands : (xs : List Entry) → length xs ≡ 8 → (h e : ℕ) (r : ℤ) → ((i : ℕ) → i < 8 → stands_at xs h e r i ≡ false) → step_of (pairs_of xs) h e r ≡ 0
+none_stands : (xs : List (List ℕ)) (h e : ℕ) (r : ℤ) → ((i : ℕ) → i < 8 → entry_stands xs h e r (suc i) ≡ false) → step_of xs h e r ≡ 0
 unfolding step_of
-none_stands xs l h e r each =
-    one_highest (entry_stands (pairs_of xs) h e r) 8 _ 0 (is_highest (entry_stands (pairs_of xs) h e r) 8)
+none_stands xs h e r each =
+    one_highest (entry_stands xs h e r) 8 _ 0 (is_highest (entry_stands xs h e r) 8)
     (record { within = omega arith; holds = λ p. absurd (omega arith); above = above })
   where
-    above : (k : ℕ) → 0 < k → k ≤ 8 → entry_stands (pairs_of xs) h e r k ≡ false
+    above : (k : ℕ) → 0 < k → k ≤ 8 → entry_stands xs h e r k ≡ false
     above zero p q = absurd (omega arith)
-    above (suc i) p q = stands_there xs l h e r i (omega arith) ∙ each i (omega arith)
+    above (suc i) p q = each i (omega arith)
 
 -- the last that stands is the step
-pub last_stands : (xs : List Entry) → length xs ≡ 8 → (h e : ℕ) (r : ℤ) (last : ℕ) → last < 8 → stands_at xs h e r last ≡ true
-    → ((i : ℕ) → last < i → i < 8 → stands_at xs h e r i ≡ false) → step_of (pairs_of xs) h e r ≡ last + 1
+last_stands : (xs : List (List ℕ)) (h e : ℕ) (r : ℤ) (last : ℕ) → last < 8 → entry_stands xs h e r (suc last) ≡ true
+    → ((i : ℕ) → last < i → i < 8 → entry_stands xs h e r (suc i) ≡ false) → step_of xs h e r ≡ last + 1
 unfolding step_of
-last_stands xs l h e r last p here each =
+last_stands xs h e r last p here each =
     rw (add-one last)
-    (one_highest (entry_stands (pairs_of xs) h e r) 8 _ (suc last) (is_highest (entry_stands (pairs_of xs) h e r) 8)
-    (record { within = omega arith; holds = λ q. stands_there xs l h e r last p ∙ here; above = above }))
+    (one_highest (entry_stands xs h e r) 8 _ (suc last) (is_highest (entry_stands xs h e r) 8)
+    (record { within = omega arith; holds = λ q. here; above = above }))
   where
-    above : (k : ℕ) → suc last < k → k ≤ 8 → entry_stands (pairs_of xs) h e r k ≡ false
+    above : (k : ℕ) → suc last < k → k ≤ 8 → entry_stands xs h e r k ≡ false
     above zero q m = absurd (omega arith)
-    above (suc i) q m = stands_there xs l h e r i (omega arith) ∙ each i (omega arith) (omega arith)
+    above (suc i) q m = each i (omega arith) (omega arith)
 
-pub at_place : (xs : List Entry) → length xs ≡ 8 → (h e : ℕ) (r : ℤ) (place : Option ℕ)
-    → IfNone place ((i : ℕ) → i < 8 → stands_at xs h e r i ≡ false)
-    → IfSome place (λ (last : ℕ). (last < 8) × (stands_at xs h e r last ≡ true))
-    → IfSome place (λ (last : ℕ). (i : ℕ) → last < i → i < 8 → stands_at xs h e r i ≡ false)
-    → step_of (pairs_of xs) h e r ≡ option_map_or (λ (i : ℕ). i + 1) place 0
-at_place xs l h e r None each here above = none_stands xs l h e r each
-at_place xs l h e r (Some last) each here above = last_stands xs l h e r last here.0 here.1 above
+pub at_place : (xs : List (List ℕ)) (h e : ℕ) (r : ℤ) (place : Option ℕ) → IfNone place ((i : ℕ) → i < 8 → entry_stands xs h e r (suc i) ≡ false)
+    → IfSome place (λ (last : ℕ). (last < 8) × (entry_stands xs h e r (suc last) ≡ true))
+    → IfSome place (λ (last : ℕ). (i : ℕ) → last < i → i < 8 → entry_stands xs h e r (suc i) ≡ false)
+    → step_of xs h e r ≡ option_map_or (λ (i : ℕ). i + 1) place 0
+at_place xs h e r None each here above = none_stands xs h e r each
+at_place xs h e r (Some last) each here above = last_stands xs h e r last here.0 here.1 above
 
 -- some element passes exactly if the test of an entry holds of some
-pub some_listed : {A : Type 0} (p : A → Bool) (f : ℕ → Bool) (xs : List A) (d : A) (n : ℕ) → n ≤ length xs
+some_listed : {A : Type 0} (p : A → Bool) (f : ℕ → Bool) (xs : List A) (d : A) (n : ℕ) → n ≤ length xs
     → ((k : ℕ) → k < length xs → f (suc k) ≡ p (get_or xs k d)) → list_any p (take n xs) ≡ some_of f n
 unfolding some_of
 some_listed p f xs d zero h same = refl
@@ -191,10 +195,13 @@ pub step_within : (table : List (List ℕ)) (hysteresis earlier : ℕ) (reading 
 unfolding step_of
 step_within table hysteresis earlier reading = (is_highest (entry_stands table hysteresis earlier reading) 8).within
 
--- some entry is out of its range exactly if its pair is
-pub some_out : (xs : List Entry) → length xs ≡ 8 → list_any (λ (e : Entry). ltb 127 e.temperature || ltb 63 e.value) xs ≡ out_of (pairs_of xs)
+-- an entry is out of its range
+abbrev pub out : List ℕ → Bool
+out entry = ltb 127 (temperature entry) || ltb 63 (value entry)
+
+-- some element is out of its range exactly if some entry is
+pub some_out : (xs : List (List ℕ)) → length xs ≡ 8 → list_any out xs ≡ out_of xs
 unfolding out_of
 some_out xs l =
     let all = take_all 8 xs (omega (arith, l)) in
-    let out : Entry → Bool = λ e. ltb 127 e.temperature || ltb 63 e.value in
-    rw all at (some_listed out (out_at (pairs_of xs)) xs none 8 (omega (arith, l)) (λ k h. rw (pair_at xs k none h)))
+    rw all at (some_listed out (out_at xs) xs [] 8 (omega (arith, l)) (λ k h. refl))

@@ -1,5 +1,4 @@
 pub mod Table
-pub mod Entries
 pub mod Drive
 pub mod Fan
 pub mod Answers

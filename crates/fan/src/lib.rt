@@ -5,8 +5,6 @@ ghost use Rattle.std.specs.Prelude.{◌≡◌, ◌≤◌, ◌<◌, MatchResult};
 ghost use Rattle.fan.specs.Fan.{duty_answer_of, preset_answer_of};
 ghost use Rattle.fan.specs.Answers.{told_of};
 
-use table::Table;
-
 pub mod drive;
 pub mod table;
 
@@ -109,18 +107,17 @@ impl From<Result<u16, Refusal>> for Number {
 }
 
 impl Fan {
-    ghost use Rattle.fan.specs.Entries.{pairs_of};
     ghost use Rattle.fan.specs.Fan.{code_of, step_answer_of};
     ghost use Rattle.fan.specs.Answers.{code_told, driven_of};
 
     // 11, then 4, else nothing.
-    fn check(&self, table: Table, earlier: u8) -> Result<(), Refusal>
-        ensures { code_told result ≡ code_of (pairs_of table.entries) self.now.hysteresis self.now.frequency earlier }
+    fn check(&self, table: [[u8; 2]; 8], earlier: u8) -> Result<(), Refusal>
+        ensures { code_told result ≡ code_of table self.now.hysteresis self.now.frequency earlier }
     {
-        if table.falls() {
+        if table::falls(table) {
             return Err(Refusal::Falling);
         }
-        if table.out_of_range()
+        if table::out_of_range(table)
             | (HYSTERESIS_MOST < self.hysteresis)
             | (FREQUENCY_MOST < self.frequency)
             | (table::ENTRIES < usize::from(earlier))
@@ -134,10 +131,10 @@ impl Fan {
     pub fn step(&self, earlier: u8, reading: i8) -> Result<Step, Refusal>
         ensures { driven_of result ≡ step_answer_of self.now earlier reading }
     {
-        let table = Table::from(self.table);
+        let table = table::of(self.table);
         self.check(table, earlier)?;
-        let number = table.step(self.hysteresis, earlier, reading);
-        let value = table.value(number);
+        let number = table::step(table, self.hysteresis, earlier, reading);
+        let value = table::value(table, number);
         Ok(Step {
             number,
             value,

@@ -9,12 +9,12 @@ use Rattle.fan.proofs.Fan.step.Goals as goal
 pub returns-in_err-check : goal.returns-in_err-check
 returns-in_err-check c =
     let p = err_from_is_err_and c.from_residual.result c.from_residual.ensures.1 in
-    let code : refusal_code c.in_err-check.field-0.0 ≡ given c.args.self.now c.args.earlier = rw c.from-table.ensures at c.in_err-check.ensures in
+    let code : refusal_code c.in_err-check.field-0.0 ≡ given c.args.self.now c.args.earlier = rw c.of-table.ensures at c.in_err-check.ensures in
     rw (p.1, p.2, refuses c.args.self.now c.args.earlier c.args.reading (λ e. some_code _ (code ∙ e)), code)
 
 pub returns : goal.returns
 returns c =
-    let table = c.from-table.ensures in
+    let table = c.of-table.ensures in
     let duty = one_duty _ _ _ _ c.duty.ensures (is_duty _ _) in
     let accepted : given c.args.self.now c.args.earlier ≡ 0 = sym (rw table at c.in_ok-check.ensures) in
     let answer = answered c.args.self.now c.args.earlier c.args.reading accepted in

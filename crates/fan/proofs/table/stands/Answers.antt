@@ -1,7 +1,7 @@
 use mir.Facts.{to_z-of_z}
 use Rattle.fan.specs.Table.{stands_of}
 use Rattle.fan.proofs.Signed.{wide, pos_fits, less_fits}
-use Rattle.fan.proofs.table.Entry.stands.Goals as goal
+use Rattle.fan.proofs.table.stands.Goals as goal
 
 pub returns : goal.returns
 unfolding stands_of
