@@ -1,13 +1,13 @@
 // Whole records, one after another.
-ghost use Rattle.std.specs.Prelude.{◌≡◌, true, ◌∷◌, ◌-◌, min, ◌≤◌, length, drop};
+ghost use Rattle.std.specs.Prelude.{◌≡◌, true, ◌∷◌, ◌-◌, min, ◌≤◌, length, drop, IsErr};
 ghost use Rattle.pair.specs.Bus.{placed_of};
 ghost use Rattle.pair.specs.Hand.{settled_of};
 ghost use Rattle.capture.specs.Reader.{hold_of, between_of, report_of};
-ghost use Rattle.capture.specs.Refusal.{refusal_code_of};
+ghost use Rattle.record.specs.Record.{code_of};
 ghost use Rattle.capture.specs.Loops.{waits_of, carrying_of, upto_of, Ready, Took, Full};
 
 use super::{Ahead, Fed, Reader, Refusal, report, taking};
-use device::Device;
+use device::{Device, Event};
 use pair::hand;
 use pair::hand::Hand;
 
@@ -47,9 +47,11 @@ fn between(s: Reader, done: u32, h: Hand, device: Device) -> Reader
 }
 
 // A refused record: the state holds its code.
-fn refused(s: Reader, why: Refusal, at: usize, written: usize) -> Fed
-    ensures { result ≡ report_of (refusal_code_of why) at written (hold_of s (refusal_code_of why)) }
+fn refused(s: Reader, decoded: Result<Event, record::Refusal>, at: usize, written: usize) -> Fed
+    requires { IsErr decoded }
+    ensures { result ≡ report_of (code_of decoded) at written (hold_of s (code_of decoded)) }
 {
+    let why = Refusal::from(decoded.unwrap_err());
     report(u8::from(why), at, written, taking::hold(s, why))
 }
 
@@ -60,10 +62,11 @@ pub(crate) fn no_room(ahead: Ahead, c: u8, written: usize) -> Fed
 {
     let Ahead { reader: s, at } = ahead;
     let [kind, a, b] = s.bytes;
-    match record::decode(s.bus.devices, kind, a, b, c) {
-        Ok(_) => report(u8::from(Refusal::Room), at, written, s),
-        Err(why) => refused(s, Refusal::from(why), at, written),
-    }
+    let decoded = record::decode(s.bus.devices, kind, a, b, c);
+    let Ok(_) = decoded else {
+        return refused(s, decoded, at, written);
+    };
+    report(u8::from(Refusal::Room), at, written, s)
 }
 
 // How many records can be taken from a fourth byte on: one that restarts both devices, else the least of those counted, whole in the bytes, and with
@@ -95,12 +98,10 @@ pub(crate) fn run(ahead: Ahead, input: &[u8], answers: &mut [u8], start: usize) 
     let mut written = start;
     let mut left = upto(h.restart, s, input.len() - at, answers.len() - start);
     loop {
-        let e = match record::decode(h.devices, kind, a, b, input[at]) {
-            Ok(e) => e,
-            Err(why) => {
-                let n = carrying(s, done, h, device, kind, a, b);
-                return refused(n, Refusal::from(why), at, written);
-            }
+        let decoded = record::decode(h.devices, kind, a, b, input[at]);
+        let Ok(e) = decoded else {
+            let n = carrying(s, done, h, device, kind, a, b);
+            return refused(n, decoded, at, written);
         };
         let o = device::effect(device, e);
         put_pair(&mut answers[written..], device::answer(o) | h.lines, o.byte);

@@ -16,7 +16,7 @@ use Rattle.std.specs.Prelude.{Ok}
 use Rattle.record.specs.Record.{decode_of}
 use Rattle.pair.specs.declared.hand.Hand.{Hand}
 use Rattle.capture.specs.declared.Reader.{Reader}
-use Rattle.capture.proofs.Records.{waiting, same_code, hand_at, Running, Stepped, run_start, run_refused, run_effect}
+use Rattle.capture.proofs.Records.{waiting, hand_at, Running, Stepped, run_start, run_refused, run_effect}
 use Rattle.capture.proofs.running.run.Goals as goal
 
 -- a record is read under the state's device count
@@ -47,16 +47,17 @@ loop-e-init c =
     rw (c.upto-left.ensures, c.picked-device.ensures, c.taken-h.ensures)
     (run_start a.ahead a.input.now a.answers.now a.start c.requires (search rules) (omega arith) (omega arith))
 
-pub returns-in-Err : goal.returns-in-Err
-returns-in-Err c =
-    rw (c.refused.ensures, c.from.ensures, same_code _, c.carrying-n.ensures, c.taken-h.ensures)
-    (run_refused c.loop-e.invariant _ (read c.args.ahead.reader _ _ _ _ c.taken-h.ensures c.decode.ensures ∙ c.in-Err.is))
+pub returns-in_default : goal.returns-in_default
+returns-in_default c =
+    let told = c.in_default.is in
+    rw (c.refused.ensures, told, c.carrying-n.ensures, c.taken-h.ensures)
+    (run_refused c.loop-e.invariant _ (read c.args.ahead.reader _ _ _ _ c.taken-h.ensures c.decode-decoded.ensures ∙ told))
 
 pub returns-then-left-eq0 : goal.returns-then-left-eq0
 returns-then-left-eq0 c =
     let s =
     stored c.loop-e.invariant (λ i. (c.type_inv.input i).fits)
-    c.taken-h.ensures c.decode.ensures c.in-Ok.is c.effect-o.ensures c.answer.ensures c.put_pair.ensures
+    c.taken-h.ensures c.decode-decoded.ensures c.in-Ok.is c.effect-o.ensures c.answer.ensures c.put_pair.ensures
     in
     rw (c.report.ensures, c.between.ensures, c.taken-h.ensures) s.last
 
@@ -64,7 +65,7 @@ pub returns-then-leaves : goal.returns-then-leaves
 returns-then-leaves c =
     let s =
     stored c.loop-e.invariant (λ i. (c.type_inv.input i).fits)
-    c.taken-h.ensures c.decode.ensures c.in-Ok.is c.effect-o.ensures c.answer.ensures c.put_pair.ensures
+    c.taken-h.ensures c.decode-decoded.ensures c.in-Ok.is c.effect-o.ensures c.answer.ensures c.put_pair.ensures
     in
     rw (c.report-then-leaves.ensures, c.carrying.ensures, c.taken-h.ensures) (s.leaves (omega arith))
 
@@ -72,6 +73,6 @@ pub loop-e-preserved : goal.loop-e-preserved
 loop-e-preserved c =
     let s =
     stored c.loop-e.invariant (λ i. (c.shared_slice_known-in-loop-e-1.given i).fits)
-    c.taken-h.ensures c.decode.ensures c.in-Ok.is c.effect-o.ensures c.answer.ensures c.put_pair.ensures
+    c.taken-h.ensures c.decode-decoded.ensures c.in-Ok.is c.effect-o.ensures c.answer.ensures c.put_pair.ensures
     in
     s.again (omega arith) (rw c.taken-h.ensures at (sym c.leaves.ensures ∙ c.if-leaves.false))
