@@ -71,6 +71,7 @@ impl Out {
 const QUEUE: u8 = 3;
 
 // P2, request b: the remote reading of a sample, and whether it was held.
+// Kept: settings go as the array that they are in C's struct lm89_device, here and below.
 pub fn reading(s: [u8; 14], high: u8, low: u8) -> Reading
     ensures { result ≡ reading_of s high low }
 {

@@ -171,7 +171,7 @@ impl Ends {
         self.local.through(out.crit, cleared)
     }
 
-    // P4: from this fault count.
+    // P4: from this fault count. Kept apart from the local channel, which has no offset, count or queue.
     #[tactic(auto, unfolding(crate::specs::Ends::remote_before, registers::specs::Page::setting_of, registers::specs::Page::read_position_of))]
     fn remote_before(self, s: [u8; 14], remote: i16, faults: u8) -> Made
         ensures { result ≡ remote_before s self remote faults }

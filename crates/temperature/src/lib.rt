@@ -19,7 +19,7 @@ pub fn degrees(b: u8) -> i16
     i16::from(b.cast_signed())
 }
 
-// P1: a high byte and the top three bits of a low byte as eighths.
+// P1: a high byte and the top three bits of a low byte as eighths. Kept: from_be_bytes and a shift say the sentence of P1 no plainer.
 pub fn eighths(high: u8, low: u8) -> i16
     ensures { result ≡ eighths_of high low }
 {
