@@ -6,7 +6,7 @@ ghost use Rattle.bench.specs.Bench.{last_of, RanWhole};
 
 use capture::Reader;
 
-// The reader's code if not 0, else the finishing one.
+// The reader's code if not 0, else the finishing one. Kept as a number: so it stands in C's lm89_fed, and lm89_run tells it so.
 fn last_code(code: u8, reader: Reader) -> u8
     ensures { result ≡ last_of code reader }
 {

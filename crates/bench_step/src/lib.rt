@@ -41,7 +41,7 @@ impl From<Result<(u8, u8), Refusal>> for Answer {
 fn refused(d: Device, why: record::Refusal) -> Refusal
     ensures { refusal_code_of result ≡ cond (variant_of d.variant && ranged_of d) (code_of (Err why)) 8 }
 {
-    if device::ranges::variant(d.variant) & device::ranges::ranged(d) {
+    if device::ranges::in_range(d) {
         return Refusal::from(why);
     }
     Refusal::OutOfRange
@@ -66,7 +66,7 @@ pub fn step(d: &mut Device, kind: u8, a: u8, b: u8, c: u8) -> Result<(u8, u8), R
     Ok((accepted.first, accepted.second))
 }
 
-// A device as after power-on, all zeros where the variant is none of 1 to 3.
+// A device as after power-on, all zeros where the variant is none of 1 to 3. Kept: a call that could not fail still cannot (power_on_of).
 #[tactic(auto, unfolding(crate::specs::BenchStep::power_on_of))]
 pub fn power_on(variant: u8) -> Device
     ensures { result ≡ power_on_of variant }

@@ -36,7 +36,7 @@ fn answered(d: Device, byte: u8) -> Outcome
 }
 
 // A bit of configuration is set.
-pub(crate) fn configured(settings: [u8; 14], bit: u8) -> bool
+pub fn configured(settings: [u8; 14], bit: u8) -> bool
     ensures { result ≡ has (setting_of settings 0x03) bit }
 {
     bits::has(settings[registers::CONFIGURATION], bit)
@@ -226,7 +226,7 @@ fn converted(d: Device, local: u8, remote: i16, broken: bool) -> Device
     }
 }
 
-// A conversion, taken or not.
+// A conversion, taken or not. Kept as three arguments, here and above: the definitions sense_of, converted_of and sensed_of take them so.
 #[tactic(auto, unfolding(crate::specs::Bus::sense_of))]
 pub(crate) fn sense(d: Device, local: u8, remote: Reading, broken: bool) -> Outcome
     ensures { result ≡ sense_of d local remote broken }

@@ -142,7 +142,7 @@ pub fn answer(o: Outcome) -> u8
 pub fn step(d: Device, e: Event) -> Result<Accepted, Refusal>
     ensures { told_of d result ≡ step_of d e }
 {
-    if !(ranges::variant(d.variant) & ranges::ranged(d)) {
+    if !ranges::in_range(d) {
         return Err(Refusal::OutOfRange);
     }
     if ranges::second(e) {

@@ -1,5 +1,5 @@
 // A state's ranges, of the device's part, and an event's operands.
-ghost use Rattle.std.specs.Prelude.{◌≡◌, eqb};
+ghost use Rattle.std.specs.Prelude.{◌≡◌, ◌&&◌, eqb};
 ghost use Rattle.std.specs.Int.Bits.{bit_and};
 ghost use Rattle.device.specs.Ranges.{all_true, variant_of, masks_of, ranged_of, operands_of, second_of};
 
@@ -63,6 +63,13 @@ pub fn ranged(d: Device) -> bool
         d.low % 32 == 0,
         d.lowkept | (d.low == 0),
     ])
+}
+
+// Every range.
+pub fn in_range(d: Device) -> bool
+    ensures { result ≡ (variant_of d.variant && ranged_of d) }
+{
+    variant(d.variant) & ranged(d)
 }
 
 // Addresses at most 7Fh, a remote low byte that is a multiple of 32.

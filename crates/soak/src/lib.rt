@@ -1,9 +1,7 @@
 #![tactic(auto)]
 
 // T_CRIT_A at the end of a soak (request f): a stretch of conversions under one setup, read from the end backwards until both channels are decided.
-ghost use Rattle.std.specs.Prelude.{◌≡◌, ◌&&◌, [], map, reverse, IfErr};
-ghost use Rattle.device.specs.Bus.{standby_of};
-ghost use Rattle.device.specs.Ranges.{variant_of, ranged_of};
+ghost use Rattle.std.specs.Prelude.{◌≡◌, [], map, reverse, IfErr};
 ghost use Rattle.soak.specs.Soak.{Running, back_of, soak_of};
 ghost use Rattle.soak.specs.Answers.{soaked_of, Counted};
 ghost use Rattle.soak.specs.Ends.{quad_in, readings_of};
@@ -266,28 +264,15 @@ fn back(d: Device, quads: &[[u8; 4]]) -> Result<Answer, Refusal>
     })
 }
 
-fn in_range(d: Device) -> bool
-    ensures { result ≡ (variant_of d.variant && ranged_of d) }
-{
-    device::ranges::variant(d.variant) & device::ranges::ranged(d)
-}
-
-#[tactic(auto, unfolding(registers::specs::Page::setting_of, registers::specs::Page::read_position_of))]
-fn in_standby(d: Device) -> bool
-    ensures { result ≡ standby_of d.settings }
-{
-    bits::has(d.settings[registers::CONFIGURATION], bits::STANDBY)
-}
-
 // Is T_CRIT_A pulled at the end?
 pub fn soak(device: Device, records: &[u8]) -> Result<Answer, Refusal>
     ensures told { soaked_of result ≡ soak_of device records.now }
     ensures counted { IfErr result Counted }
 {
-    if !in_range(device) {
+    if !device::ranges::in_range(device) {
         return Err(Refusal::OutOfRange);
     }
-    if in_standby(device) {
+    if device::bus::configured(device.settings, bits::STANDBY) {
         return Err(Refusal::Standby);
     }
     let (quads, over) = records.as_chunks::<4>();

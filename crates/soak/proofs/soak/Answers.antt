@@ -10,22 +10,22 @@ pub returns-then-not-in_range-clause-told : goal.returns-then-not-in_range-claus
 unfolding soak_of
 returns-then-not-in_range-clause-told c = rw (← c.in_range.ensures, c.if-not-in_range.true)
 
-pub returns-then-in_standby-clause-told : goal.returns-then-in_standby-clause-told
+pub returns-then-configured-clause-told : goal.returns-then-configured-clause-told
 unfolding soak_of
-returns-then-in_standby-clause-told c = rw (← c.in_range.ensures, c.if-not-in_range.false, ← c.in_standby.ensures, c.if-in_standby.true)
+returns-then-configured-clause-told c = rw (← c.in_range.ensures, c.if-not-in_range.false, ← c.configured.ensures, c.if-configured.true)
 
 pub returns-then-not-is_empty-clause-told : goal.returns-then-not-is_empty-clause-told
 unfolding soak_of
 returns-then-not-is_empty-clause-told c =
     let uneven = rw c.as_chunks.ensures.back_len at (sym c.is_empty.ensures ∙ c.if-not-is_empty.true) in
-    rw (← c.in_range.ensures, c.if-not-in_range.false, ← c.in_standby.ensures, c.if-in_standby.false, uneven)
+    rw (← c.in_range.ensures, c.if-not-in_range.false, ← c.configured.ensures, c.if-configured.false, uneven)
 
 pub back-requires : goal.back-requires
-back-requires c = running _ (sym c.in_range.ensures ∙ c.if-not-in_range.false) (sym c.in_standby.ensures ∙ c.if-in_standby.false)
+back-requires c = running _ (sym c.in_range.ensures ∙ c.if-not-in_range.false) (sym c.configured.ensures ∙ c.if-configured.false)
 
 pub returns-clause-told : goal.returns-clause-told
 unfolding soak_of
 returns-clause-told c =
     let even = rw c.as_chunks.ensures.back_len at (sym c.is_empty.ensures ∙ c.if-not-is_empty.false) in
-    rw (c.back.ensures.told, ← c.in_range.ensures, c.if-not-in_range.false, ← c.in_standby.ensures, c.if-in_standby.false, even, c.as_chunks.ensures.front)
+    rw (c.back.ensures.told, ← c.in_range.ensures, c.if-not-in_range.false, ← c.configured.ensures, c.if-configured.false, even, c.as_chunks.ensures.front)
     (ap (back_of c.args.device []) (latest_are c.args.records.now (eqb-true _ _ even)))
