@@ -38,11 +38,15 @@ pub fn picked(bus: Bus, second: bool) -> Device
 pub fn placed(bus: Bus, second: bool, device: Device) -> Bus
     ensures { result ≡ placed_of bus second device }
 {
-    let mut n = bus;
     if second {
-        n.second = device;
+        Bus {
+            second: device,
+            ..bus
+        }
     } else {
-        n.first = device;
+        Bus {
+            first: device,
+            ..bus
+        }
     }
-    n
 }
