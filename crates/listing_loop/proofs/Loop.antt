@@ -20,7 +20,7 @@ use Rattle.listing_loop.specs.declared.Failure.{Failure}
 use Rattle.listing_loop.specs.declared.Failure.TheVariants.{NotRead, NotWritten}
 use Rattle.listing_loop.specs.declared.Totals.{Totals}
 use Rattle.listing_loop.specs.List.{listed_from, Lists}
-use Rattle.listing_loop.specs.Loop.{reader_of, goes_of, Took, Ended}
+use Rattle.listing_loop.specs.Loop.{reader_of, goes_of, Took, EndWritten}
 use Rattle.listing_loop.specs.List.Lists.{in_full, not_read, not_written}
 
 -- ---- one turn or end line that failed
@@ -99,7 +99,7 @@ module _ {s : Reader} {left after held grown : Option (List ℕ)} {next : Contro
     output : (line : List ℕ) → End g.r.reader line → Output all ((f.text ++ g.text) ++ line) g.r.reader
     output line end = record { text = f.text ++ g.text; line = line; turns = f.onward last_turn; end = end; written = refl }
 
-    over : {begun ended : Option (List ℕ)} {t : Totals} → Ended (reader_of next) begun ended t → Lists (listed_from (Ok t))
+    over : {begun ended : Option (List ℕ)} {t : Totals} → EndWritten (reader_of next) begun ended t → Lists (listed_from (Ok t))
     over d =
         let same = rw g.reader at d in
         in_full
@@ -112,6 +112,6 @@ module _ {s : Reader} {left after held grown : Option (List ℕ)} {next : Contro
           told = ap (λ (t : Totals). listed_from (Ok t)) same.told;
         })
 
-    pub over_lists : (begun ended : Option (List ℕ)) (r : Result Totals Failure) → IfOk r (Ended (reader_of next) begun ended) → Lists (listed_from r)
+    pub over_lists : (begun ended : Option (List ℕ)) (r : Result Totals Failure) → IfOk r (EndWritten (reader_of next) begun ended) → Lists (listed_from r)
     over_lists begun ended (Ok t) d = over d
     over_lists begun ended (Err f) d = failed f

@@ -100,7 +100,7 @@ abbrev pub ended_of : Reader → ℕ → Bool → Listed
 ended_of last code written = cond written (told_of last code) (failed_of not_written_failure)
 
 -- an end line that was written, behind what a writer held whose bytes are known, and what is told then
-pub record Ended (last : Reader) (held grown : Option (List ℕ)) (t : Totals) : Type 0 where
+pub record EndWritten (last : Reader) (held grown : Option (List ℕ)) (t : Totals) : Type 0 where
   pub line : List ℕ
   pub end : End last line
   pub wrote : Appends held grown line

@@ -5,7 +5,7 @@ ghost use Rattle.std.specs.Io.KnownBytes.{Appends};
 ghost use Rattle.lines_laws.specs.Turns.{read_most, text_room};
 ghost use Rattle.listing_loop.specs.declared.Failure.TheVariants.{NotWritten};
 ghost use Rattle.listing_loop.specs.List.{totals_of, listed_from, Lists};
-ghost use Rattle.listing_loop.specs.Loop.{part_from, PartLaid, GotBytes, Took, Ended};
+ghost use Rattle.listing_loop.specs.Loop.{part_from, PartLaid, GotBytes, Took, EndWritten};
 
 use capture::Reader;
 use std::io::{Read, Write};
@@ -118,7 +118,7 @@ fn turn<R: Read, W: Write>(
 
 // Writes the end line.
 fn end<W: Write>(output: &mut W, last: Reader) -> Result<Totals, Failure>
-    ensures { IfOk result (Ended last (W.contents output.old) (W.contents output.new)) }
+    ensures { IfOk result (EndWritten last (W.contents output.old) (W.contents output.new)) }
 {
     let mut text = [0; END_ROOM];
     let code = capture::finish(last);
