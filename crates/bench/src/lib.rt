@@ -18,6 +18,7 @@ fn last_code(code: u8, reader: Reader) -> u8
 }
 
 // A whole capture and an answer buffer: sixteen times the answer bytes written, plus the code.
+// Kept as one number: the form that docs/STATEMENTS.md names.
 pub fn run(bytes: &[u8], answers: &mut [u8]) -> u64
     ensures { RanWhole bytes.now result answers.old answers.new }
 {

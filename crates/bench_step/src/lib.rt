@@ -9,7 +9,7 @@ ghost use Rattle.bench_step.specs.BenchStep.{answer_of, taken_of, step_bytes_of,
 
 use device::{Accepted, Device, Refusal};
 
-// Kept: the C interface has this struct, lm89_answer. A step's code and its two answer bytes.
+// A step's code and its two answer bytes. Kept: the C interface has this struct, lm89_answer.
 #[repr(C)]
 #[derive(Clone, Copy, PartialEq, Eq)]
 pub struct Answer {

@@ -1,5 +1,5 @@
 -- The bench's writer of events: an event is given as its record's four bytes, since an exported function takes no enum. On the bytes of
--- an event it is the writer of events (proofs/Twin.antt: is-the-writer); 3 is for bytes that are no event's.
+-- an event it is the writer of events (proofs/Twin.antt: is_the_writer); 3 is for bytes that are no event's.
 -- Assumes nothing.
 use Rattle.std.specs.Prelude.{ℕ, cond, List, [], ◌∷◌, leb, eqb, length}
 use Rattle.record.specs.Record.{decode_of, code_of}

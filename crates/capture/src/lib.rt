@@ -108,7 +108,7 @@ pub fn feed(reader: Reader, input: &[u8], answers: &mut [u8]) -> Fed
 }
 
 // The finishing code of a state in its ranges: the held one, 6 before the counted end, else 0.
-// Kept as a number: end_of says so of every state, and a state out of its ranges holds numbers that no refusal has.
+// Kept as a number, here and below: end_of and finish_of say so of every state, and one out of its ranges holds numbers that no refusal has.
 pub fn ending(reader: Reader) -> u8
     ensures { result ≡ end_of reader }
 {

@@ -84,6 +84,7 @@ fn upto(restart: bool, s: Reader, bytes: usize, room: usize) -> usize
 
 // From a record whose fourth byte is next, for as long as whole records follow that name no other device: a code that ends the call, or 0.
 // Kept as a loop: chunks are no plainer, since it takes a record's fourth byte and the next one's first three in turn, and may end between them.
+// Kept: let .. else is the form that docs/STATEMENTS.md names.
 // Kept: counts beside the slices, since C's lm89_fed tells them and the part from the written count on is what put_pair is lent.
 // Kept: the report of the call, C's lm89_fed, with code 0 where it goes on; a Result of it and of the same three numbers is no plainer.
 pub(crate) fn run(ahead: Ahead, input: &[u8], answers: &mut [u8], start: usize) -> Fed

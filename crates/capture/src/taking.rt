@@ -71,7 +71,7 @@ fn head_byte(s: Reader, b: u8) -> Result<Reader, Refusal>
     })
 }
 
-// A byte at one of three places, each by a constant index: the state stays in registers.
+// A byte at one of three places. Kept: by constant indices, so that the state stays in registers.
 fn placed(q: [u8; 3], at: u8, b: u8) -> [u8; 3]
     requires { at < 3 }
     ensures { result ≡ set q at b }

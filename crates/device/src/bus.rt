@@ -226,7 +226,8 @@ fn converted(d: Device, local: u8, remote: i16, broken: bool) -> Device
     }
 }
 
-// A conversion, taken or not. Kept as three arguments, here and above: the definitions sense_of, converted_of and sensed_of take them so.
+// A conversion, taken or not.
+// Kept as three arguments, here and above: so the public conversion::sense takes them, and Asked::Sense carries them fastest.
 #[tactic(auto, unfolding(crate::specs::Bus::sense_of))]
 pub(crate) fn sense(d: Device, local: u8, remote: Reading, broken: bool) -> Outcome
     ensures { result ≡ sense_of d local remote broken }

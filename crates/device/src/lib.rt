@@ -55,7 +55,7 @@ pub enum Asked {
 }
 
 // What an event does: a conversion taken, its reading held; the device after it; acknowledged, and the byte read or 0. In the fastest order.
-// Kept as flags: bits D2 to D4 of the first answer byte are these three, and the laws of held readings (shows_held) speak of each.
+// Kept as flags: bits D2 to D4 of the first answer byte are these three, and the laws Responds and StatusRead speak of each.
 #[derive(Clone, Copy)]
 pub struct Outcome {
     pub taken: bool,

@@ -23,6 +23,7 @@ pub struct Fan {
 }
 
 // The entry that is in force, 0 for none, its PWM value and the duty in hundredths of a percent.
+// Kept as numbers: step 0 for none is the page's and C's (lm89_driven).
 #[derive(Debug, Clone, Copy, PartialEq, Eq)]
 pub struct Step {
     pub number: u8,
@@ -110,7 +111,7 @@ impl Fan {
     ghost use Rattle.fan.specs.Fan.{code_of, step_answer_of};
     ghost use Rattle.fan.specs.Answers.{code_told, driven_of};
 
-    // 11, then 4, else nothing.
+    // Falling, then Operand, else nothing.
     fn check(&self, table: [[u8; 2]; 8], earlier: u8) -> Result<(), Refusal>
         ensures { code_told result ≡ code_of table self.now.hysteresis self.now.frequency earlier }
     {

@@ -5,6 +5,7 @@ use std::io::Write;
 
 fn main(rt: HostRuntime) {
     if let Err(failure) = listing_loop::list(&mut rt.stdin(), &mut rt.stdout()) {
+        // Kept as a match: the texts are this program's alone.
         let said = match failure {
             Failure::NotRead =>
                 "listing: standard input cannot be read: give a capture by '<' or a pipe\n",

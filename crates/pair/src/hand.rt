@@ -20,7 +20,8 @@ const POWER_ON: u8 = Kind::PowerOn as u8;
 const CONVERT_SECOND: u8 = Kind::ConvertSecond as u8;
 
 // How many devices, which is at hand, whether both restart, and of the other its address and its lines.
-// Kept as bools: picked_of, placed_of and the theorems of specs/ say by a Bool which device is meant.
+// Kept as bools: pair::picked, pair::placed and the theorems of specs/ say by a Bool which device is meant.
+// Kept: of one device `away` is not read and `lines` is 0; an Option of both, asked at each record, is no plainer.
 #[derive(Clone, Copy)]
 pub struct Hand {
     pub devices: u8,

@@ -9,7 +9,7 @@ pub mod hand;
 pub mod ranges;
 pub mod response;
 
-// How many devices, and the two; a second that is absent is all zeros.
+// How many devices, and the two; a second that is absent is all zeros. Kept: C's struct lm89_bus has these fields.
 #[repr(C)]
 #[derive(Clone, Copy)]
 pub struct Bus {

@@ -18,7 +18,7 @@ fn mask(low: bool, high: bool) -> u8
     conversion::bit(low, LOWER) | conversion::bit(high, HIGHER)
 }
 
-// The device at the mask's lowest set bit.
+// The device at the mask's lowest set bit. Kept: the form that docs/STATEMENTS.md names.
 fn lowest(mask: u8, low: Named, high: Named) -> Named
     ensures { result ≡ at_bit (count_trailing_zeros 8 mask) low high }
 {

@@ -30,6 +30,7 @@ fn last_kind(devices: u8) -> u8
 }
 
 // A record's four bytes, under a device count.
+// Kept as four numbers, as C gives them (lm89_step, lm89_write_event) and as the table of kinds names them.
 pub fn decode(devices: u8, kind: u8, a: u8, b: u8, c: u8) -> Result<Event, Refusal>
     ensures { result ≡ decode_of devices kind a b c }
 {
@@ -94,7 +95,7 @@ fn count_bytes(count: u32) -> [u8; 4]
     count.to_be_bytes()
 }
 
-// Two functions for two sizes: no const parameter is computed from another.
+// Kept as two: functions for two sizes, since no const parameter is computed from another.
 fn header(variant: u8, count: u32) -> [u8; 6]
     ensures { result ≡ header_of (variant ∷ []) count }
 {

@@ -68,7 +68,7 @@ Decided ch d read =
     (n m : ℕ) → n ≤ 3 → m ≤ 3 → (l r l' r' : Bool) → latch_after ch (supposing d n l r) read ≡ latch_after ch (supposing d m l' r') read
 
 -- the same as a test: by each earlier fault count, from both latches clear and from both set. No channel looks at the other's latch, so that these are all
--- (soak_laws/proofs/Reading.antt: decided-exactly)
+-- (soak_laws/proofs/Reading.antt: decided_exactly)
 abbrev pub each_earlier : (ℕ → Bool → Bool) → List Bool
 each_earlier f = f 0 false ∷ f 0 true ∷ f 1 false ∷ f 1 true ∷ f 2 false ∷ f 2 true ∷ f 3 false ∷ f 3 true ∷ []
 
