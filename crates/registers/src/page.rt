@@ -1,17 +1,17 @@
 // Source document 004's register table (9.6.1), in the order of the page: what is read, what is written, where it stands and what is kept of it.
 ghost use Rattle.std.specs.Prelude.{◌≡◌};
-ghost use Rattle.registers.specs.Rows.{by_page, by_row, allows_of, row_at};
+ghost use Rattle.registers.specs.Rows.{by_page, by_row, sorts_of, allows_of, row_at};
 
 use super::{Way, bits};
 
-// The four sorts of access of 004 (9.3.8), and none of them.
+// The four sorts of access of 004 (9.3.8), and none of them. A bit is for reading, one for writing, one for either by the address (`sorts`).
 #[derive(Clone, Copy, PartialEq, Eq)]
 pub(crate) enum Access {
-    Neither,
-    ReadOnly,
-    WriteOnly,
-    SameAddress,
-    TwoAddresses,
+    Neither = 0b000,
+    ReadOnly = 0b001,
+    WriteOnly = 0b010,
+    SameAddress = 0b011,
+    TwoAddresses = 0b100,
 }
 
 // What a line says of its register.
@@ -95,17 +95,22 @@ pub(crate) fn row_of(reg: u8) -> Row
 // The lowest write address of the page. The six registers with two addresses are read below it, at 03h to 08h, and written from it on, at 09h to 0Eh.
 const LOWEST_WRITE_ADDRESS: u8 = 0x09;
 
+// The bits of the sorts of access that are read, or written, at this address.
+fn sorts(way: Way, reg: u8) -> u8
+    ensures { result ≡ sorts_of way reg }
+{
+    let lower = reg < LOWEST_WRITE_ADDRESS;
+    match way {
+        Way::Read => if lower { 0b101 } else { 0b001 },
+        Way::Write => if lower { 0b010 } else { 0b110 },
+    }
+}
+
 impl Access {
-    // Whether a register of this sort is read, or written, at this address of it.
+    // Whether a register of this sort is read, or written, at this address of it. Kept as bits: a match is compiled to a jump at each read.
     pub(crate) fn allows(self, way: Way, reg: u8) -> bool
         ensures { result ≡ allows_of self way reg }
     {
-        match self {
-            Access::Neither => false,
-            Access::ReadOnly => way == Way::Read,
-            Access::WriteOnly => way == Way::Write,
-            Access::SameAddress => true,
-            Access::TwoAddresses => (way == Way::Read) == (reg < LOWEST_WRITE_ADDRESS),
-        }
+        bits::has(self as u8, sorts(way, reg))
     }
 }

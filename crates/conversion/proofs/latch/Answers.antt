@@ -1,13 +1,15 @@
+use borrow.Author.Rules.{rules}
 use Rattle.conversion.specs.Conversion.{latch_of}
-use mathlib.Core.Path.{◌≡◌, refl}
-use mathlib.Core.Bool.{Bool, true, false, not, ◌&&◌, ◌||◌}
 use Rattle.conversion.proofs.latch.Goals as goal
 
-by_cases : (critical cleared old : Bool) → (critical || not cleared && old) ≡ latch_of critical cleared old
+pub returns-then-critical : goal.returns-then-critical
 unfolding latch_of
-by_cases true cleared old = refl
-by_cases false true old = refl
-by_cases false false old = refl
+returns-then-critical c = search rules
 
-pub returns : goal.returns
-returns c = by_cases c.args.critical c.args.cleared c.args.old
+pub returns-then-cleared : goal.returns-then-cleared
+unfolding latch_of
+returns-then-cleared c = search rules
+
+pub returns-else-cleared : goal.returns-else-cleared
+unfolding latch_of
+returns-else-cleared c = search rules
