@@ -99,12 +99,12 @@ pub fn remote_limits(s: [u8; 14]) -> Limits
     }
 }
 
-// P4: the fault count after a conversion.
+// P4: the fault count after a conversion. Kept as choices: of std's `min` the compiler makes jumps, mispredicted at every second random reading.
 pub fn count(faults: u8, out: bool) -> u8
     ensures { result ≡ count_of faults out }
 {
     if out {
-        faults.min(QUEUE - 1) + 1
+        if faults < QUEUE { faults + 1 } else { QUEUE }
     } else {
         0
     }
