@@ -249,12 +249,13 @@ fn back(d: Device, quads: &[[u8; 4]]) -> Result<Answer, Refusal>
 {
     let mut ends = Ends::began();
     let mut read = 0;
-    for &quad in quads.iter().rev() {
+    // A record is looked at only once the channels are seen to be undecided.
+    for quad in quads.iter().rev() {
         if ends.decided() {
             break;
         }
         read += 1;
-        let met = readings(d.settings, quad);
+        let met = readings(d.settings, *quad);
         let (local, remote) = met.map_err(|why| Refusal::Record(why, read))?;
         ends = ends.before(d.settings, local, remote);
     }
