@@ -39,6 +39,7 @@ DECLARED = re.compile(r"^ *(?!let |module |use |--|→)(?:(?:abbrev|unfoldable) 
 ERROR = re.compile(r"^(\S+?):(\d+):\d+: error(?:\[[^]]*\])?: (?:`([^`]*)`: )?(.*)$", re.M)
 # the files of a function's proof, each in a folder of its own below proofs/
 FUNCTION_PROOFS = ("Proof", "Answers", "Invariants")
+USE = re.compile(r"(?:pub |ghost )?use ")
 # what only says that something else was refused, and what says that a name or a field is gone: neither is evidence
 FOLLOWS = "so this cannot be checked"
 SHAPE = re.compile(r"that can be named from here|not in scope|is not defined|has no field|is not a field")
@@ -131,11 +132,30 @@ def without_functions(text):
             while kept and kept[-1].startswith(("#[", "//")):
                 kept.pop()
             inside = not line.endswith("}")
-        elif not line.startswith("ghost use "):
+        else:
             kept.append(line)
-    body = "\n".join(line for line in kept if not line.startswith("use "))
-    lines = (needed(line, body) if line.startswith("use ") else line for line in kept)
+    body = "\n".join(line for line in kept if not USE.match(line))
+    lines = (imported(line, body) if USE.match(line) else line for line in kept)
     return "\n".join(line for line in lines if line is not None)
+
+
+def imported(line, body):
+    """A line of imports with what is still wanted of it, or None: types that are passed on, words of ghost fields, what is named."""
+    if line.startswith("pub use "):
+        return chosen(line, lambda name: name[0].isupper())
+    if line.startswith("ghost use "):
+        ghosts = "\n".join(text for text in body.split("\n") if text.lstrip().startswith("ghost "))
+        return chosen(line, lambda name: name.strip("◌") in ghosts)
+    return needed(line, body)
+
+
+def chosen(line, wanted):
+    """A `use` line with those of its names that are wanted, or None."""
+    path, brace, names = line.rstrip("; ").partition("{")
+    if not brace:
+        return line if wanted(path.split("::")[-1].strip()) else None
+    still = [name for name in names.rstrip("}").split(", ") if wanted(name)]
+    return f"{path}{{{', '.join(still)}}};" if still else None
 
 
 def needed(line, body):
