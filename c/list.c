@@ -1,6 +1,7 @@
 /*
- * lm89_list: the reads and the writes. What lies between them is the exports of crates/bench_list, each with a proved promise; this loop, which
- * is that of crates/listing_loop/src/lib.rt, is read and tested, and not proved.
+ * lm89_list: the reads and the writes. What lies between them is the exports of crates/bench_list, each with a proved promise, and it is proved
+ * of these promises that whoever calls them as this loop does is told a listing or a failure, as lm89_list promises (Stepped and stepped_lists of
+ * crates/listing_loop). This loop, which does what that of crates/listing_loop/src/lib.rt does, is read and tested, and not proved.
  */
 #define _POSIX_C_SOURCE 200809L
 

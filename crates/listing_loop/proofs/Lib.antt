@@ -2,3 +2,4 @@ pub mod Making
 pub mod Loop
 pub mod Listings
 pub mod Laying
+pub mod Stepping

@@ -1,7 +1,7 @@
 -- What the functions of the listing's loop promise each other: what each lays in the text that it is lent, and what a turn and the end line
 -- come to. No sentence of document 01 stands here; the call promises no more than `Lists`.
 -- Assumes nothing.
-use Rattle.std.specs.Prelude.{◌≡◌, ℕ, ◌≤◌, Bool, true, false, cond, ◌&&◌, List, length, take, ℤ, pos, negsuc, ◌==◌, nat_lt, Result, Ok, Err}
+use Rattle.std.specs.Prelude.{◌≡◌, ℕ, ◌≤◌, ⊤, Bool, true, false, cond, ◌&&◌, List, length, take, ℤ, pos, negsuc, ◌==◌, nat_lt, Result, Ok, Err}
 use Rattle.std.specs.Io.KnownBytes.{Keeps, Appends, Consumes, IsAtEnd}
 use Rattle.std.specs.declared.option.Option.{Option}
 use Rattle.std.specs.declared.ops.ControlFlow.{ControlFlow}
@@ -11,9 +11,9 @@ use Rattle.capture.specs.declared.Fed.{Fed}
 use Rattle.capture.specs.Reader.{finish_of}
 use Rattle.capture_laws.specs.Schedule.{Bytes}
 use Rattle.lines.specs.Lines.{end_line_of, Laid, Lined}
-use Rattle.lines_laws.specs.Turns.{Turn, End}
+use Rattle.lines_laws.specs.Turns.{end_room, Turn, End}
 use Rattle.listing_loop.specs.declared.Failure.{Failure}
-use Rattle.listing_loop.specs.declared.Failure.TheVariants.{NotRead}
+use Rattle.listing_loop.specs.declared.Failure.TheVariants.{NotRead, NotWritten}
 use Rattle.listing_loop.specs.declared.Totals.{Totals}
 use Rattle.listing_loop.specs.declared.PartLines.{PartLines}
 use Rattle.listing_loop.specs.declared.steps.Listed.{Listed}
@@ -88,6 +88,11 @@ pub record Took (s : Reader) (left after held grown : Option (List ℕ)) (next :
   pub read : Consumes left after part
   pub wrote : Appends held grown text
 
+-- a turn that failed: where it is told that the read did, that read took none of the bytes that are known, and nothing was written
+abbrev pub Missed : Option (List ℕ) → Option (List ℕ) → Option (List ℕ) → Option (List ℕ) → Failure → Type 0
+Missed left after held grown NotRead = Keeps left after × (grown ≡ held)
+Missed left after held grown NotWritten = ⊤
+
 -- ---- the end
 
 -- of C: the end line stands in front of the lent text, and the rest of that is as it was
@@ -105,3 +110,32 @@ pub record EndWritten (last : Reader) (held grown : Option (List ℕ)) (t : Tota
   pub end : End last line
   pub wrote : Appends held grown line
   pub told : t ≡ totals_of last (finish_of last)
+
+-- ---- the steps of C, one after another
+
+-- a read, what is laid of it, and what came of the write
+pub record Turned (s : Reader) (w : Went) : Type 0 where
+  pub got : ℤ
+  pub buffer : List ℕ
+  pub part : Part
+  pub blank : List ℕ
+  pub page : List ℕ
+  pub laid : ReadLaid s got buffer part blank page
+  pub written : Bool
+  pub told : w ≡ wrote_of part written
+
+-- an end line, and what came of its write
+pub record Ended (last : Reader) (r : Listed) : Type 0 where
+  pub line : EndLine
+  pub blank : List ℕ
+  pub page : List ℕ
+  pub wide : end_room ≤ length blank
+  pub laid : EndLaid last line blank page
+  pub written : Bool
+  pub told : r ≡ ended_of last line.code written
+
+-- the loop of c/list.c from a state on: turns for as long as none fails and another follows, then the end line; or what is told of a turn that failed
+pub data Stepped : Reader → Listed → Type 0 where
+  goes_on : {s : Reader} {w : Went} {r : Listed} → Turned s w → w.failure ≡ whole → w.goes ≡ true → Stepped w.reader r → Stepped s r
+  ends : {s : Reader} {w : Went} {r : Listed} → Turned s w → w.failure ≡ whole → w.goes ≡ false → Ended w.reader r → Stepped s r
+  fails : {s : Reader} {w : Went} → Turned s w → (w.failure ≡ whole → ⊥) → Stepped s (failed_of w.failure)

@@ -5,7 +5,7 @@ ghost use Rattle.std.specs.Io.KnownBytes.{Appends};
 ghost use Rattle.lines_laws.specs.Turns.{read_most, text_room};
 ghost use Rattle.listing_loop.specs.declared.Failure.TheVariants.{NotWritten};
 ghost use Rattle.listing_loop.specs.List.{totals_of, listed_from, Lists};
-ghost use Rattle.listing_loop.specs.Loop.{part_from, PartLaid, GotBytes, Took, EndWritten};
+ghost use Rattle.listing_loop.specs.Loop.{part_from, PartLaid, GotBytes, Took, Missed, EndWritten};
 
 use capture::Reader;
 use std::io::{Read, Write};
@@ -106,7 +106,8 @@ fn turn<R: Read, W: Write>(
     output: &mut W,
     reader: Reader,
 ) -> Result<ControlFlow<Reader, Reader>, Failure>
-    ensures { IfOk result (Took reader (R.remaining input.old) (R.remaining input.new) (W.contents output.old) (W.contents output.new)) }
+    ensures ok { IfOk result (Took reader (R.remaining input.old) (R.remaining input.new) (W.contents output.old) (W.contents output.new)) }
+    ensures err { IfErr result (Missed (R.remaining input.old) (R.remaining input.new) (W.contents output.old) (W.contents output.new)) }
 {
     let mut buffer = [0; READ_MOST];
     let mut text = [0; TEXT_ROOM];
@@ -118,7 +119,8 @@ fn turn<R: Read, W: Write>(
 
 // Writes the end line.
 fn end<W: Write>(output: &mut W, last: Reader) -> Result<Totals, Failure>
-    ensures { IfOk result (EndWritten last (W.contents output.old) (W.contents output.new)) }
+    ensures ok { IfOk result (EndWritten last (W.contents output.old) (W.contents output.new)) }
+    ensures err { IfErr result (λ e. e ≡ NotWritten) }
 {
     let mut text = [0; END_ROOM];
     let code = capture::finish(last);
