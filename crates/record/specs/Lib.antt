@@ -5,3 +5,4 @@ pub mod Writer
 pub mod Opened
 pub mod Codes
 pub mod Examples
+pub mod Stopped

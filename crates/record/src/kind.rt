@@ -1,5 +1,6 @@
 // The kinds of records, by number.
-ghost use Rattle.record.specs.Kinds.{Numbered};
+ghost use Rattle.std.specs.Prelude.{◌≡◌};
+ghost use Rattle.record.specs.Kinds.{kind_of};
 
 use super::Refusal;
 
@@ -21,7 +22,7 @@ pub enum Kind {
 impl TryFrom<u8> for Kind {
     type Error = Refusal;
 
-    ghost try_from_gives = { Numbered };
+    ghost try_from_gives = { λ number kind. kind ≡ kind_of number };
 
     fn try_from(number: u8) -> Result<Self, Refusal> {
         match number {

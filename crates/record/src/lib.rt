@@ -10,7 +10,7 @@ mod kind;
 mod refusal;
 
 pub use kind::Kind;
-pub use refusal::{Refusal, WriteRefusal, write_code};
+pub use refusal::{Refusal, WriteRefusal, code, write_code};
 
 fn admit(good: bool, e: Event) -> Result<Event, Refusal>
     ensures { result ≡ admit_of good e }

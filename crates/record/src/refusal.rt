@@ -1,8 +1,10 @@
 // Why a record is refused, and why nothing is written, with the codes of both.
 ghost use Rattle.std.specs.Prelude.{◌≡◌, Err};
-ghost use Rattle.device.specs.Step.{refusal_code_of};
 ghost use Rattle.record.specs.Record.{code_of};
+ghost use Rattle.record.specs.Stopped.{stopped_of};
 ghost use Rattle.record.specs.Writer.{of_record, write_code_of};
+
+use device::Event;
 
 // Why a record is refused.
 #[derive(Clone, Copy, Debug, PartialEq, Eq)]
@@ -22,11 +24,21 @@ impl From<Refusal> for u8 {
     }
 }
 
+// The code of a record: 0 for an event.
+#[tactic(auto, unfolding(crate::specs::Record::code_of))]
+pub fn code(decoded: Result<Event, Refusal>) -> u8
+    ensures { result ≡ code_of decoded }
+{
+    match decoded {
+        Ok(_) => 0,
+        Err(why) => u8::from(why),
+    }
+}
+
 // Bytes that are no event's are not stepped.
 impl From<Refusal> for device::Refusal {
-    ghost from_gives = { λ why refusal. refusal_code_of refusal ≡ code_of (Err why) };
+    ghost from_gives = { λ why refusal. refusal ≡ stopped_of why };
 
-    #[tactic(auto, unfolding(crate::specs::Record::code_of))]
     fn from(why: Refusal) -> device::Refusal {
         match why {
             Refusal::Kind => device::Refusal::Kind,
