@@ -15,23 +15,22 @@ use Rattle.device.specs.declared.Refusal.TheVariants.{OutOfRange, Kind as Stoppe
 use lib.Dec.{eqb}
 use lib.ListN.{get_or}
 use Rattle.device.specs.Ranges.{variant_of, ranged_of, operands_of, second_of}
-use Rattle.device.specs.Step.{Stepped, told_of, step_of}
+use Rattle.device.specs.Step.{told_of, step_of}
 use Rattle.std.specs.Prelude.{Result, Ok, Err}
 use Rattle.record.specs.declared.refusal.Refusal.{Refusal}
 use Rattle.record.specs.declared.refusal.Refusal.TheVariants.{Kind, Operand}
 use Rattle.record.specs.Record.{decode_of, code_of, encode_of}
-use Rattle.device.proofs.Steps.{same_told}
+use Rattle.device.proofs.Steps.{told_back}
 use Rattle.record.proofs.RoundTrip.{reads_back, reads_refused, reads_unknown}
 use Rattle.bench_step.specs.declared.Answer.{Answer}
-use Rattle.bench_step.specs.BenchStep.{Taken, refusal_of, taken_of, answer_of, step_bytes_of}
-
--- the step that is told so
-from_taken : Taken → Stepped
-from_taken t = record { code = t.answer.code; first = t.answer.first; second = t.answer.second; device = t.device }
+use Rattle.bench_step.specs.BenchStep.{refusal_of, taken_of, from_taken, answer_of, step_bytes_of}
 
 from_answer : Answer → Result (ℕ × ℕ) Stopped
 from_answer t =
     cond (eqb t.code 0) (Ok (t.first, t.second)) (Err (cond (eqb t.code 8) OutOfRange (cond (eqb t.code 3) StoppedKind StoppedOperand)))
+
+pub taken_back : (d : Device) (r : Result Accepted Stopped) → from_taken (taken_of (told_of d r)) ≡ r
+taken_back d r = told_back d r
 
 answer_back : (r : Result (ℕ × ℕ) Stopped) → from_answer (answer_of r) ≡ r
 unfolding from_answer
@@ -64,8 +63,7 @@ module _ (d : Device) (kind a b c : ℕ) where
   one_step p q = (p.0 ∙ sym q.0, p.1 ∙ sym q.1)
 
   pub one_taken : {r s : Result Accepted Stopped} → taken_of (told_of d r) ≡ step_bytes_of d kind a b c → taken_of (told_of d s) ≡ step_bytes_of d kind a b c → r ≡ s
-  unfolding from_taken
-  one_taken p q = same_told d _ _ (ap from_taken (p ∙ sym q))
+  one_taken p q = sym (taken_back d _) ∙ ap from_taken (p ∙ sym q) ∙ taken_back d _
 
   pub one_told : {exit exit' : Device} {r s : Result (ℕ × ℕ) Stopped}
       → (exit ≡ (step_bytes_of d kind a b c).device) × (answer_of r ≡ (step_bytes_of d kind a b c).answer)

@@ -4,10 +4,11 @@
 -- Assumes nothing.
 use Rattle.std.specs.Prelude.{ℕ, ◌&&◌, cond, Result, Ok, Err}
 use Rattle.device.specs.declared.Device.{Device}
+use Rattle.device.specs.declared.Accepted.{Accepted}
 use Rattle.device.specs.declared.Refusal.{Refusal}
 use Rattle.device.specs.Bus.{powered_of, zero_device}
 use Rattle.device.specs.Ranges.{variant_of, ranged_of}
-use Rattle.device.specs.Step.{Stepped, refusal_code_of, step_of}
+use Rattle.device.specs.Step.{Stepped, refusal_code_of, from_told, step_of}
 use Rattle.record.specs.Record.{Record}
 use Rattle.record.specs.Record.{decode_of, code_of}
 use Rattle.bench_step.specs.declared.Answer.{Answer}
@@ -24,6 +25,10 @@ refusal_of d code = record { device = d; answer = record { code = code; first = 
 -- what a step by value gives
 abbrev pub taken_of : Stepped → Taken
 taken_of s = record { device = s.device; answer = record { code = s.code; first = s.first; second = s.second } }
+
+-- the step by value that gives this
+abbrev pub from_taken : Taken → Result Accepted Refusal
+from_taken t = from_told (record { code = t.answer.code; first = t.answer.first; second = t.answer.second; device = t.device })
 
 -- what the program's step on the device where it stands gives, in C's numbers
 abbrev pub answer_of : Result (ℕ × ℕ) Refusal → Answer

@@ -5,7 +5,7 @@ ghost use Rattle.std.specs.Prelude.{◌≡◌, cond, ◌&&◌, Err};
 ghost use Rattle.device.specs.Ranges.{variant_of, ranged_of};
 ghost use Rattle.device.specs.Step.{refusal_code_of, told_of};
 ghost use Rattle.record.specs.Record.{code_of};
-ghost use Rattle.bench_step.specs.BenchStep.{answer_of, taken_of, step_bytes_of, power_on_of};
+ghost use Rattle.bench_step.specs.BenchStep.{answer_of, taken_of, from_taken, step_bytes_of, power_on_of};
 
 use device::{Accepted, Device, Refusal};
 
@@ -49,7 +49,8 @@ fn refused(d: Device, why: record::Refusal) -> Refusal
 
 // One event, given as its record's four bytes, by value. Under a device count of 1 kinds 08 and 09 are refused.
 pub fn step_bytes(d: Device, kind: u8, a: u8, b: u8, c: u8) -> Result<Accepted, Refusal>
-    ensures { taken_of (told_of d result) ≡ step_bytes_of d kind a b c }
+    ensures told { taken_of (told_of d result) ≡ step_bytes_of d kind a b c }
+    ensures same { result ≡ from_taken (step_bytes_of d kind a b c) }
 {
     match record::decode(1, kind, a, b, c) {
         Ok(e) => device::step(d, e),

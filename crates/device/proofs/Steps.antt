@@ -5,7 +5,6 @@
 -- Assumes nothing.
 use mathlib.Core.Path.{◌≡◌, refl, sym, ap, ◌∙◌}
 use mathlib.Core.Bool.{Bool, true, false, ◌&&◌, cond}
-use lib.Dec.{eqb}
 use Rattle.device.specs.declared.Device.{Device}
 use Rattle.device.specs.declared.Event.{Event}
 use Rattle.device.specs.declared.Accepted.{Accepted}
@@ -16,7 +15,7 @@ use Rattle.temperature.specs.Temperature.{degrees_of, eighths_of}
 use Rattle.registers.specs.Page.{power_on_of, read_only_of}
 use Rattle.device.specs.Bus.{powered_of, zero_device}
 use Rattle.device.specs.Ranges.{variant_of, ranged_of, operands_of, second_of}
-use Rattle.device.specs.Step.{Stepped, effect_of, refused_of, stepped_of, told_of, step_of}
+use Rattle.device.specs.Step.{effect_of, refused_of, stepped_of, told_of, from_told, step_of}
 use Rattle.device.proofs.InRange.{kept}
 use Rattle.device.proofs.Untouched.{same_variant}
 
@@ -29,14 +28,7 @@ pub step_effect : (d : Device) (e : Event) → variant_of d.variant ≡ true →
 unfolding step_of
 step_effect d e variant ranged own operands = rw (variant, ranged, own, operands)
 
--- the result that is told in these numbers
-from_told : Stepped → Result Accepted Refusal
-from_told t =
-    cond (eqb t.code 0) (Ok (record { first = t.first; second = t.second; device = t.device }))
-    (Err (cond (eqb t.code 8) OutOfRange (cond (eqb t.code 3) Kind Operand)))
-
-told_back : (d : Device) (r : Result Accepted Refusal) → from_told (told_of d r) ≡ r
-unfolding from_told
+pub told_back : (d : Device) (r : Result Accepted Refusal) → from_told (told_of d r) ≡ r
 told_back d (Ok a) = refl
 told_back d (Err OutOfRange) = refl
 told_back d (Err Kind) = refl

@@ -59,6 +59,12 @@ abbrev pub told_of : Device → Result Accepted Refusal → Stepped
 told_of d (Ok a) = record { code = 0; first = a.first; second = a.second; device = a.device }
 told_of d (Err why) = refused_of d (refusal_code_of why)
 
+-- the result that is told in these numbers
+abbrev pub from_told : Stepped → Result Accepted Refusal
+from_told t =
+    cond (eqb t.code 0) (Ok (record { first = t.first; second = t.second; device = t.device }))
+    (Err (cond (eqb t.code 8) OutOfRange (cond (eqb t.code 3) Kind Operand)))
+
 -- 8 for a device out of its ranges or of no variant, then 3 for a conversion of a second device (request c), then 4 for an operand outside
 -- the table
 unfoldable pub step_of : Device → Event → Stepped

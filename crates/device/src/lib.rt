@@ -1,7 +1,7 @@
 #![tactic(auto)]
 // The register machine: one device, one event, by value.
 ghost use Rattle.std.specs.Prelude.{◌≡◌};
-ghost use Rattle.device.specs.Step.{effect_of, answer_of, refusal_code_of, told_of, step_of};
+ghost use Rattle.device.specs.Step.{effect_of, answer_of, refusal_code_of, told_of, from_told, step_of};
 ghost use Rattle.device.specs.Asking.{done_of};
 
 use conversion::Sensed;
@@ -140,7 +140,8 @@ pub fn answer(o: Outcome) -> u8
 // One event: refused for a device out of its ranges, then for a conversion of a second device, then for an operand outside the table.
 #[tactic(auto, unfolding(crate::specs::Step::step_of))]
 pub fn step(d: Device, e: Event) -> Result<Accepted, Refusal>
-    ensures { told_of d result ≡ step_of d e }
+    ensures told { told_of d result ≡ step_of d e }
+    ensures same { result ≡ from_told (step_of d e) }
 {
     if !ranges::in_range(d) {
         return Err(Refusal::OutOfRange);

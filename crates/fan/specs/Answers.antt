@@ -1,6 +1,6 @@
 -- The answers of src/lib.rt, as the structs that C gets.
 -- Assumes nothing.
-use Rattle.std.specs.Prelude.{ℕ, Result, Ok, Err}
+use Rattle.std.specs.Prelude.{ℕ, cond, eqb, Result, Ok, Err}
 use Rattle.fan.specs.declared.Step.{Step}
 use Rattle.fan.specs.declared.Refusal.{Refusal}
 use Rattle.fan.specs.declared.Refusal.TheVariants.{Falling, Operand}
@@ -27,3 +27,13 @@ driven_of (Err refusal) = refuses_of (refusal_code refusal)
 abbrev pub told_of : Result ℕ Refusal → Number
 told_of (Ok value) = number_of value
 told_of (Err refusal) = record { code = refusal_code refusal; value = 0 }
+
+-- the refusal of a code, and what the answers stand for
+abbrev pub from_code : ℕ → Refusal
+from_code code = cond (eqb code 11) Falling Operand
+
+abbrev pub from_driven : Driven → Result Step Refusal
+from_driven d = cond (eqb d.code 0) (Ok (record { number = d.step; value = d.value; duty = d.duty })) (Err (from_code d.code))
+
+abbrev pub from_told : Number → Result ℕ Refusal
+from_told n = cond (eqb n.code 0) (Ok n.value) (Err (from_code n.code))

@@ -3,7 +3,7 @@
 // The fan side of the LM63 (request g): a table of eight steps, the duty of a PWM value and the preset of about 75 percent. It stands beside the sensor.
 ghost use Rattle.std.specs.Prelude.{◌≡◌, ◌≤◌, ◌<◌, MatchResult};
 ghost use Rattle.fan.specs.Fan.{duty_answer_of, preset_answer_of};
-ghost use Rattle.fan.specs.Answers.{told_of};
+ghost use Rattle.fan.specs.Answers.{told_of, from_told};
 
 pub mod drive;
 pub mod table;
@@ -109,7 +109,7 @@ impl From<Result<u16, Refusal>> for Number {
 
 impl Fan {
     ghost use Rattle.fan.specs.Fan.{code_of, step_answer_of};
-    ghost use Rattle.fan.specs.Answers.{code_told, driven_of};
+    ghost use Rattle.fan.specs.Answers.{code_told, driven_of, from_driven};
 
     // Falling, then Operand, else nothing.
     fn check(&self, table: [[u8; 2]; 8], earlier: u8) -> Result<(), Refusal>
@@ -130,7 +130,8 @@ impl Fan {
 
     // The step after a reading, with its PWM value and its duty.
     pub fn step(&self, earlier: u8, reading: i8) -> Result<Step, Refusal>
-        ensures { driven_of result ≡ step_answer_of self.now earlier reading }
+        ensures told { driven_of result ≡ step_answer_of self.now earlier reading }
+        ensures same { result ≡ from_driven (step_answer_of self.now earlier reading) }
     {
         let table = table::of(self.table);
         self.check(table, earlier)?;
@@ -156,7 +157,8 @@ fn within(number: u8, most: u8) -> Result<(), Refusal>
 
 // The duty of a PWM value, in hundredths of a percent.
 pub fn duty(frequency: u8, value: u8) -> Result<u16, Refusal>
-    ensures { told_of result ≡ duty_answer_of frequency value }
+    ensures told { told_of result ≡ duty_answer_of frequency value }
+    ensures same { result ≡ from_told (duty_answer_of frequency value) }
 {
     within(frequency, FREQUENCY_MOST)?;
     within(value, table::VALUE_MOST)?;
@@ -165,7 +167,8 @@ pub fn duty(frequency: u8, value: u8) -> Result<u16, Refusal>
 
 // The PWM value for about 75 percent.
 pub fn preset(frequency: u8) -> Result<u16, Refusal>
-    ensures { told_of result ≡ preset_answer_of frequency }
+    ensures told { told_of result ≡ preset_answer_of frequency }
+    ensures same { result ≡ from_told (preset_answer_of frequency) }
 {
     within(frequency, FREQUENCY_MOST)?;
     Ok(drive::preset(frequency))

@@ -3,7 +3,7 @@
 // T_CRIT_A at the end of a soak (request f): a stretch of conversions under one setup, read from the end backwards until both channels are decided.
 ghost use Rattle.std.specs.Prelude.{◌≡◌, [], map, reverse, IfErr};
 ghost use Rattle.soak.specs.Soak.{Running, back_of, soak_of};
-ghost use Rattle.soak.specs.Answers.{soaked_of, Counted};
+ghost use Rattle.soak.specs.Answers.{soaked_of, from_soaked, Counted};
 ghost use Rattle.soak.specs.Ends.{quad_in, readings_of};
 
 use conversion::Sensed;
@@ -268,6 +268,7 @@ fn back(d: Device, quads: &[[u8; 4]]) -> Result<Answer, Refusal>
 // Is T_CRIT_A pulled at the end?
 pub fn soak(device: Device, records: &[u8]) -> Result<Answer, Refusal>
     ensures told { soaked_of result ≡ soak_of device records.now }
+    ensures same { result ≡ from_soaked (soak_of device records.now) }
     ensures counted { IfErr result Counted }
 {
     if !device::ranges::in_range(device) {

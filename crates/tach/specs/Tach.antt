@@ -58,3 +58,9 @@ code_of EqualStamps = 13
 abbrev pub told_of : Result Report Refusal → Speeds
 told_of (Ok report) = record { code = 0; slowest = report.slowest; fastest = report.fastest; under = report.under }
 told_of (Err refusal) = refuses_of (code_of refusal)
+
+-- the report or the refusal of this answer
+abbrev pub from_told : Speeds → Result Report Refusal
+from_told s =
+    cond (nat_eq s.code 0) (Ok (record { slowest = s.slowest; fastest = s.fastest; under = s.under }))
+    (Err (cond (nat_eq s.code 12) FewStamps EqualStamps))

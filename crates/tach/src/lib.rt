@@ -3,7 +3,7 @@
 // Fan speeds from the stamps of a tachometer's edges, one a revolution (request h). It stands beside the sensor.
 ghost use Rattle.std.specs.Prelude.{◌≡◌, ◌≢◌};
 ghost use Rattle.tach.specs.Stamps.{period_of, speed_of};
-ghost use Rattle.tach.specs.Tach.{tach_of, code_of, told_of};
+ghost use Rattle.tach.specs.Tach.{tach_of, code_of, told_of, from_told};
 
 // Ticks of the counter in a minute; the speed at a period of one tick, and none is higher.
 const TICKS_A_MINUTE: u32 = 5400000;
@@ -82,7 +82,8 @@ fn speed(earlier: u16, later: u16) -> u32
 
 // The slowest and the fastest speed of a run of stamps, and how many fell under the floor.
 pub fn measure(stamps: &[u16], floor: u32) -> Result<Report, Refusal>
-    ensures { told_of result ≡ tach_of stamps.now floor }
+    ensures told { told_of result ≡ tach_of stamps.now floor }
+    ensures same { result ≡ from_told (tach_of stamps.now floor) }
 {
     if stamps.len() < 2 {
         return Err(Refusal::FewStamps);
