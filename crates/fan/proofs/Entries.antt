@@ -1,32 +1,38 @@
--- Entries up to a number: the highest that a test holds of, `highest_exactly`, and whether it holds of some, `found` and `not_found`. What src/table.rt finds
--- of a table's places is so of its entries: `sorted_falls`, `some_out`, `last_stands`.
+-- Entries up to a number: the highest that a test holds of, `highest_exactly`, and whether it holds of some, `found` and `not_found`, one entry more at a
+-- time, `some_more`. What src/table.rt finds of a table's places is so of its entries: `some_out`, `last_stands`.
 -- Assumes nothing.
 use mathlib.Core.Path.{◌≡◌, refl, sym, ◌∙◌}
 use mathlib.Core.Logic.{◌↔◌}
 use mathlib.Core.List.{List, [], ◌∷◌}
-use mathlib.Core.Bool.{Bool, true, false, ◌||◌, not}
+use mathlib.Core.Bool.{Bool, true, false, ◌||◌}
 use Prim.Native.Nat.{ℕ, zero, suc, ◌+◌, ◌*◌, ◌≤◌, ◌<◌}
 use native.Mathlib.Numerals.{add-one}
 use native.Mathlib.Omega.{arith}
 use lib.Dec.{leb, ltb}
 use lib.ListN.{get_or, length, take}
 use lib.IntN.{ℤ}
-use borrow.Author.Tests.{leb-true, leb-false, ltb-true, ltb-false, le-ltb, lt-ltb}
+use borrow.Author.Tests.{leb-true, leb-false, ltb-true, ltb-false}
 use Rattle.laws.proofs.Choices.{clash, cond_ind, by_test}
 use Rattle.laws.proofs.Exactly.{by_lines}
 use Rattle.std.specs.Prelude.{Option, None, Some, IfNone, IfSome}
 use Rattle.std.specs.Option.{option_map_or}
-use Rattle.std.specs.List.{IsAllAdjacentAnswer, AllAdjacentBelow, list_any}
+use Rattle.std.specs.List.{list_any}
 use Rattle.std.specs.Simd.{first_chunks}
 use Rattle.std.proofs.lemmas.List.{get_or_past, take_all}
 use Rattle.std.proofs.lemmas.List.Folds.{list_any_more}
-use Rattle.fan.specs.Table.{table_of, temperature_of, value_of, entry_stands, Highest, highest, step_of, some_of, falls_of, out_of}
+use Rattle.fan.specs.Table.{table_of, temperature_of, value_of, entry_stands, Highest, highest, step_of, some_of, out_of}
 
 pub neither : (a b : Bool) → (a || b) ≡ false → (a ≡ false) × (b ≡ false)
 neither true b e = clash (sym e)
 neither false b e = (refl, e)
 
 module _ (f : ℕ → Bool) where
+  -- ---- one entry more
+
+  pub some_more : (n : ℕ) → some_of f (n + 1) ≡ (some_of f n || f (suc n))
+  unfolding some_of
+  some_more n = rw (add-one n)
+
   -- ---- some entry
 
   pub record Found (n : ℕ) : Type 0 where
@@ -133,22 +139,6 @@ value_listed xs zero n first some past = first refl
 value_listed xs (suc i) n first some past =
     by_test (ltb i (length xs)) (λ t. some i (omega arith) (ltb-true _ _ t))
     (λ t. let h = ltb-false _ _ t in rw (get_or_past xs i [] h) (past i (omega arith) h))
-
--- where each entry is at or below the next, none falls
-in_order : (xs : List (List ℕ)) → length xs ≡ 8 → AllAdjacentBelow (λ (x y : List ℕ). true ≡ leb (temperature x) (temperature y)) xs (length xs)
-    → (k : ℕ) → 0 < k → k ≤ 7 → falls_at xs k ≡ false
-in_order xs l each zero p q = absurd (omega arith)
-in_order xs l each (suc k) p q = le-ltb _ _ (leb-true _ _ (rw (add-one k) at (sym (each k [] (omega (arith, l))))))
-
--- the test of an entry and the next is false exactly where the table falls
-pub sorted_falls : (xs : List (List ℕ)) → length xs ≡ 8 → (r : Bool)
-    → IsAllAdjacentAnswer (λ (x y : List ℕ) (b : Bool). b ≡ leb (temperature x) (temperature y)) xs r → not r ≡ falls_of xs
-unfolding falls_of
-sorted_falls xs l true each = sym (not_found (falls_at xs) 7 (in_order xs l each))
-sorted_falls xs l false one =
-    let k = one.0 in
-    let above : temperature (get_or xs (suc k) []) < temperature (get_or xs k []) = leb-false _ _ (rw (add-one k) at (sym (one.2 []))) in
-    sym (is_found (falls_at xs) 7 (suc k) (omega arith) (omega (arith, l, one.1)) (lt-ltb _ _ above))
 
 -- where none stands the step is 0
 none_stands : (xs : List (List ℕ)) (h e : ℕ) (r : ℤ) → ((i : ℕ) → i < 8 → entry_stands xs h e r (suc i) ≡ false) → step_of xs h e r ≡ 0

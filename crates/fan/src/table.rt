@@ -24,18 +24,28 @@ pub fn of(bytes: [u8; 16]) -> [[u8; 2]; 8]
     table
 }
 
-// Some temperature is below the one before it.
+// Some temperature is below the one before it. Every entry is looked at, here and below: of std's `is_sorted_by` and `any` the compiler makes a jump at each.
 pub fn falls(table: [[u8; 2]; 8]) -> bool
     ensures { result ≡ falls_of table }
 {
-    !table.is_sorted_by(|entry, next| entry[TEMPERATURE] <= next[TEMPERATURE])
+    let mut found = false;
+    let mut before = table[0][TEMPERATURE];
+    for entry in &table[1..] {
+        found |= entry[TEMPERATURE] < before;
+        before = entry[TEMPERATURE];
+    }
+    found
 }
 
 // Some temperature or PWM value is out of its range.
 pub fn out_of_range(table: [[u8; 2]; 8]) -> bool
     ensures { result ≡ out_of table }
 {
-    table.iter().any(|entry| (TEMPERATURE_MOST < entry[TEMPERATURE]) | (VALUE_MOST < entry[VALUE]))
+    let mut found = false;
+    for entry in &table {
+        found |= (TEMPERATURE_MOST < entry[TEMPERATURE]) | (VALUE_MOST < entry[VALUE]);
+    }
+    found
 }
 
 // An entry's temperature is reached, or, for an entry up to the earlier step, its temperature less hysteresis; that goes down to -255 with no wrap.
