@@ -3,7 +3,8 @@
 what `rt fmt` would change.
 
 - a `use` line brings in nothing that its file does not name;
-- a public function has an `ensures` that says something, and no `requires` (`pub(crate)` is private);
+- a public function has an `ensures` that says something, and no `requires` (`pub(crate)` is private); one of a trait has such an `ensures`, or the `impl`
+  a ghost member that says something;
 - a function has at most 40 lines;
 - a line of a crate or of a document has at most 200 characters, though 160 are asked for.
 
@@ -34,6 +35,14 @@ BREAK = (
     ("pub fn f(a: u8) -> u8\n    requires { a < 3 }\n    ensures { result ≡ a }\n{\n    a\n}\n", "has a requires"),
     ("pub fn f(a: u8) -> u8\n    requires small { a < 3 }\n    ensures same { result ≡ a }\n    ensures low { result < 3 }\n{\n    a\n}\n", "has a requires"),
     ("impl S {\n    pub fn f(self) -> u8\n    {\n        1\n    }\n}\n", "promises nothing"),
+    ("impl From<S> for u8 {\n    fn from(s: S) -> u8 {\n        1\n    }\n}\n", "promises nothing"),
+    ("impl From<S> for u8 {\n    ghost from_gives = {  };\n\n    fn from(s: S) -> u8 {\n        1\n    }\n}\n", "promises nothing"),
+    ("impl From<S> for u8 {\n    // ghost from_gives = { λ s n. n ≡ f s };\n    fn from(s: S) -> u8 {\n        1\n    }\n}\n", "promises nothing"),
+    ("impl From<S> for u8 {\n    ghost from_gives = { λ s n. n ≡ f s };\n}\n\nimpl From<T> for u8 {\n    fn from(t: T) -> u8 {\n        1\n    }\n}\n", "promises nothing"),
+    ("mod m {\n    impl From<S> for u8 {\n        fn from(s: S) -> u8 {\n            1\n        }\n    }\n}\n", "promises nothing"),
+    ("unsafe impl From<S> for u8 {\n    fn from(s: S) -> u8 {\n        1\n    }\n}\n", "promises nothing"),
+    ("impl<T> From<T> for u8\nwhere\n    T: Copy,\n{\n    fn from(t: T) -> u8 {\n        1\n    }\n}\n", "promises nothing"),
+    ("#[x] impl From<S> for u8 {\n    fn from(s: S) -> u8 {\n        1\n    }\n}\n", "cannot be read"),
     ("fn f() {\n" + "    g();\n" * 39 + "}\n", "has 41 lines"),
     ("fn f(a: u8) -> u8;\n", "cannot be read"),
     ("fn f(a: u8) -> u8\n    ensures result ≡ a\n{\n    a\n}\n", "cannot be read"),
@@ -50,6 +59,9 @@ KEEP = (
     "pub fn f(a: u8) -> u8\n    ensures { result ≡ a }\n{\n    a\n}\n",
     "#[unsafe(no_mangle)]\npub extern \"C\" fn f(a: [u8; 14]) -> [[u8; 2]; 8]\n    ensures same { result ≡ f_of {n = 3} a }\n    ensures low { result < 3 }\n{\n    a\n}\n",
     "pub(crate) fn f(a: u8) -> u8\n    requires { a < 3 }\n    ensures { result ≡ a }\n{\n    a\n}\n",
+    "impl From<S> for u8 {\n    ghost from_gives = { λ s n. n ≡ f s };\n\n    fn from(s: S) -> u8 {\n        1\n    }\n}\n",
+    "impl From<Result<S, T>> for c::U {\n    ghost use Rattle.a.specs.B.{f};\n\n    ghost from_gives = { λ s n. n ≡ f s };\n\n    fn from(s: Result<S, T>) -> c::U {\n        1\n    }\n}\n",
+    "impl S {\n    fn f(self) -> u8 {\n        1\n    }\n}\n",
     "fn f() {\n" + "    g();\n" * 38 + "}\n",
     "ghost use Rattle.std.specs.Prelude.{◌≡◌, ◌&&◌, []};\nfn f(a: u8) -> u8\n    ensures { result ≡ (a && g []) }\n{\n    a\n}\n",
     "use std::io::Write;\nfn f(rt: HostRuntime) {\n    rt.stdout().write_all(b\"a\");\n}\n",
@@ -97,7 +109,8 @@ def promises(text):
         if function.lines > LINES_MOST:
             yield f"{where} has {function.lines} lines"
         if function.public:
-            if not function.kind("ensures") or "" in function.kind("ensures"):
+            said = function.kind("ensures") + function.given
+            if not said or "" in said:
                 yield f"{where} is public and promises nothing"
             if function.kind("requires"):
                 yield f"{where} is public and has a requires"

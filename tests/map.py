@@ -18,6 +18,8 @@ PROOF_PLACE = re.compile(r"(\w+/(?:specs|proofs)/[\w/]+\.antt)(?:: (.+))?")
 EDIT = re.compile(r"\w+/must-fail/\w+")
 OTHER = re.compile(r"(?:crates|c|tests|samples|docs|scripts|second|include|examples|misreadings)/[\w./-]+")
 EQUATION = re.compile(r"result ≡ ")
+# what the ghost member of a conversion is a function of: what is converted, and the result
+GIVEN = re.compile(r"λ [\w']+ ([\w']+)\. ")
 # What an equation's left side may name that comes of the call: the result, or what a lent place holds then, or a field of these.
 MADE = re.compile(r"(?<![\w'.-])(result|\w+\.new)((?:\.\w+)*) ≡ ")
 SOURCES = sorted(CRATES.glob("*/src/**/*.rt"))
@@ -31,6 +33,8 @@ PLAIN = (
     "result ≡ a.result",
     "result.code ≡ f result.read", "d.new ≡ f d.old result", "f result.a ≡ g a", "f.result ≡ result a",
 )
+# what a conversion gives, and whether it names its result
+GIVES = (("λ s n. n ≡ f n", True), ("λ s n. n ≡ f s", False), ("λ s n'. n' ≡ f n' s", True), ("λ s n. n ≡ n' s", False))
 # contracts, and whether an equation for the result tells all of each
 WHOLE = (
     ("    ensures { result ≡ f a }", "a: u8", True),
@@ -83,16 +87,26 @@ def split(said):
     return plain
 
 
+def as_promise(given):
+    """What the ghost member of a conversion says of its result."""
+    match = GIVEN.match(given)
+    return re.sub(rf"(?<![\w'.-]){re.escape(match[1])}(?![\w'-])", "result", given[match.end() :]) if match else given
+
+
+def promises(function):
+    return function.kind("ensures") + [as_promise(given) for given in function.given]
+
+
 def equation(function):
     """Does one equation for the result tell all that the function promises and leaves?"""
-    said = function.kind("ensures")
+    said = promises(function)
     return len(said) == 1 and EQUATION.match(said[0]) and not re.search("[×→⊎]", split(said[0])) and "&mut" not in function.parameters
 
 
 def more_than_an_equation(path):
     """The public functions of a library's source that promise, or are lent, more than an equation tells."""
     try:
-        return [function.name for function in contracts.functions(path.read_text()) if function.public and not equation(function)]
+        return [function.path for function in contracts.functions(path.read_text()) if function.public and not equation(function)]
     except contracts.Unread:
         return []  # which `says_nothing` tells
 
@@ -111,8 +125,8 @@ def right_sides(promise):
 def circular(text):
     """The functions of a source, private ones too, of which an equation's right side names what stands left."""
     for function in contracts.functions(text):
-        if any(re.search(own, side) for said in function.kind("ensures") for side, own in right_sides(said)):
-            yield function.name
+        if any(re.search(own, side) for said in promises(function) for side, own in right_sides(said)):
+            yield function.path
 
 
 def says_nothing(path):
@@ -130,7 +144,11 @@ def would_be_noticed():
     def whole(clauses, parameters):
         return bool(equation(contracts.functions(f"pub fn f({parameters}) -> u8\n{clauses}\n{{\n    a\n}}\n")[0]))
 
-    faults = [f"'{promise}' names its result, which this test does not notice" for promise in CIRCULAR if found(promise) != ["f"]]
+    def conversion(given):
+        return list(circular(f"impl From<S> for u8 {{\n    ghost from_gives = {{ {given} }};\n\n    fn from(s: S) -> u8 {{\n        1\n    }}\n}}\n"))
+
+    faults = [f"'{given}' is read wrongly" for given, told in GIVES if bool(conversion(given)) != told]
+    faults += [f"'{promise}' names its result, which this test does not notice" for promise in CIRCULAR if found(promise) != ["f"]]
     faults += [f"'{promise}' is read as an equation that names its result" for promise in PLAIN if found(promise)]
     return faults + [f"'{clauses.strip()}' of '{parameters}' is read wrongly" for clauses, parameters, told in WHOLE if whole(clauses, parameters) != told]
 
